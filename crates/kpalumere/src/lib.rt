@@ -1,0 +1,3 @@
+// The boundary for C and Rust: each call takes lent slices and numbers, answers document 01's number (0 where accepted), and writes
+// what it gives, or what its number carries, into lent words; 12, and nothing written, where those have no room.
+mod checksum;

@@ -1,0 +1,33 @@
+-- What a reply leaves at the boundary: its number, and its values in lent words. Assumes nothing: these are definitions.
+use Prim.Native.Nat.{ℕ}
+use mathlib.Core.List.{List, [], _∷_, _++_}
+use mathlib.Core.Bool.{cond}
+use lib.ListN.{length, drop}
+use lib.Dec.{leb}
+use Rattle.reply.specs.Reply.{Reply, given, refused, alone, tested}
+
+-- a call's number: 0 where it gives
+abbrev pub numberOf : {A : Type 0} → Reply A → ℕ
+numberOf (given a) = 0
+numberOf (refused number carried) = number
+
+-- a call's values: what it gives, laid out as words, or what its number carries
+abbrev pub valuesOf : {A : Type 0} → (A → List ℕ) → Reply A → List ℕ
+valuesOf lay (given a) = lay a
+valuesOf lay (refused number alone) = []
+valuesOf lay (refused number (tested count)) = count ∷ []
+
+-- the number answered, with values to be written: 12 where they do not fit the lent words
+unfoldable pub numberFor : ℕ → List ℕ → List ℕ → ℕ
+numberFor number values words = cond (leb (length values) (length words)) number 12
+
+-- the lent words after it: the values from the first word on and every other word kept, or all kept where they do not fit
+unfoldable pub wordsFor : List ℕ → List ℕ → List ℕ
+wordsFor values words = cond (leb (length values) (length words)) (values ++ drop (length values) words) words
+
+-- the number and the words that a reply leaves
+abbrev pub numberLeft : {A : Type 0} → (A → List ℕ) → Reply A → List ℕ → ℕ
+numberLeft lay reply words = numberFor (numberOf reply) (valuesOf lay reply) words
+
+abbrev pub wordsLeft : {A : Type 0} → (A → List ℕ) → Reply A → List ℕ → List ℕ
+wordsLeft lay reply words = wordsFor (valuesOf lay reply) words

@@ -1,0 +1,36 @@
+// A flash offset and an x86 physical address are different kinds of number, and the window is the only way from one to the other.
+ghost use mathlib.Core.Path.{_≡_};
+ghost use Rattle.window.specs.Window.{offsetIn, toldOffset};
+use reply::Refusal;
+
+// A place in a flash image, counted from its first byte.
+pub struct Offset(pub u32);
+
+// A place in the x86 physical address space.
+pub struct Physical(pub u64);
+
+// What the window answers: an offset, or why there is none.
+pub enum Converted {
+    Given(Offset),
+    Refused(Refusal),
+}
+
+impl Physical {
+    // The bytes below 4 GiB that document 01's window shows.
+    pub const WINDOW: u32 = 16_777_216;
+
+    // The flash offset that a window of so many bytes below 4 GiB gives this address.
+    pub fn offset(self, window: u32) -> Converted
+        ensures { λ r. ⌜ toldOffset r ≡ offsetIn window (self .0) ⌝ }
+    {
+        let a = self.0;
+        let first = 0x1_0000_0000 - (window as u64);
+        if a < first {
+            return Converted::Refused(Refusal::OUTSIDE);
+        }
+        if 0xFFFF_FFFF < a {
+            return Converted::Refused(Refusal::OUTSIDE);
+        }
+        Converted::Given(Offset((a - first) as u32))
+    }
+}

@@ -1,0 +1,60 @@
+//! The recorded cases: `host/cases/NAME.ask`, a script, and `NAME.answers`, what both programs must answer.
+
+use std::ffi::OsStr;
+use std::fs;
+use std::io;
+use std::path::{Path, PathBuf};
+
+/// A recorded case.
+pub struct Case {
+    pub name: String,
+    /// The name of its script in the folder of cases.
+    pub file: PathBuf,
+    pub script: Vec<u8>,
+    /// The answers, one a line; of a bad line only the words `bad line`.
+    pub answers: Vec<u8>,
+}
+
+/// The folder of the recorded cases. The programs are started in it, so that `file` finds what lies beside a case.
+pub fn folder() -> PathBuf {
+    Path::new(env!("CARGO_MANIFEST_DIR")).join("../cases")
+}
+
+/// All recorded cases. A script without answers, or answers without a script, is an error.
+pub fn all() -> io::Result<Vec<Case>> {
+    let mut scripts = names_with("ask")?;
+    let mut answers = names_with("answers")?;
+    scripts.sort();
+    answers.sort();
+    if scripts != answers {
+        let text = format!(
+            "every case has NAME.ask and NAME.answers in host/cases; there are the scripts \
+             {scripts:?} and the answers {answers:?}"
+        );
+        return Err(io::Error::new(io::ErrorKind::NotFound, text));
+    }
+    scripts.into_iter().map(read).collect()
+}
+
+fn read(name: String) -> io::Result<Case> {
+    let file = PathBuf::from(format!("{name}.ask"));
+    Ok(Case {
+        script: fs::read(folder().join(&file))?,
+        answers: fs::read(folder().join(format!("{name}.answers")))?,
+        file,
+        name,
+    })
+}
+
+/// The names of the files with an ending, without it.
+fn names_with(ending: &str) -> io::Result<Vec<String>> {
+    let mut names = Vec::new();
+    for entry in fs::read_dir(folder())? {
+        let path = entry?.path();
+        if path.extension() == Some(OsStr::new(ending)) {
+            let stem = path.file_stem().unwrap_or_default();
+            names.push(stem.to_string_lossy().into_owned());
+        }
+    }
+    Ok(names)
+}

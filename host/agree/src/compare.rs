@@ -1,0 +1,211 @@
+//! What two programs answered, line by line: the first place where they part.
+
+use crate::programs::{Program, Run};
+use std::path::Path;
+use std::thread;
+
+/// What stands for the answer to a bad line. Its reason is for people, and each program has its own words.
+const BAD_LINE: &[u8] = b"bad line";
+
+/// The answers that a program wrote, one a line, as they are compared.
+pub fn answers_of(written: &[u8]) -> Vec<Vec<u8>> {
+    written
+        .split_inclusive(|&byte| byte == b'\n')
+        .map(|line| match line.strip_suffix(b"\n") {
+            Some(answer) => compared(answer).to_vec(),
+            // Every answer ends its line. One that does not is shown as what it is, and equals no other.
+            None => [line, b" (and no line end)"].concat(),
+        })
+        .collect()
+}
+
+/// One answer as it is compared: of a bad line only that it is one and that a reason is given.
+fn compared(answer: &[u8]) -> &[u8] {
+    match answer.strip_prefix(b"bad line: ") {
+        Some(reason) if !reason.is_empty() => BAD_LINE,
+        _ => answer,
+    }
+}
+
+/// The status that a program must end with after these answers: 1 where a line was bad, else 0.
+pub fn status_after(answers: &[Vec<u8>]) -> i32 {
+    i32::from(answers.iter().any(|answer| answer == BAD_LINE))
+}
+
+/// Tells the first place where a run is not as expected, or nothing where it is.
+pub fn departure(script: &[u8], expected: &[Vec<u8>], status: i32, run: &Run) -> Option<String> {
+    let found = answers_of(&run.answers);
+    let places = expected.len().max(found.len());
+    let first = (0..places).find(|&place| expected.get(place) != found.get(place));
+    if let Some(place) = first {
+        let call = match call_of_answer(script, place) {
+            Some((line, call)) => format!("line {line}, {}", shown(call)),
+            None => String::from("no call"),
+        };
+        let (expected, found) = (expected.get(place), found.get(place));
+        let told = format!(
+            "answer {}, to {call}: {}",
+            place + 1,
+            told_apart(expected, found)
+        );
+        return Some(told + &said(run));
+    }
+    if run.status != Some(status) {
+        let found = run.status.map_or_else(
+            || "none (a signal ended it, or it took too long)".into(),
+            |status| status.to_string(),
+        );
+        return Some(format!("status: expected {status}, found {found}") + &said(run));
+    }
+    None
+}
+
+/// Runs two programs on a script and tells the first place where they part, with the answers of the first.
+pub fn set_side_by_side(
+    first: &Program,
+    second: &Program,
+    script: &[u8],
+    folder: &Path,
+) -> (Vec<Vec<u8>>, Option<String>) {
+    let (run, other) = thread::scope(|both| {
+        let other = both.spawn(|| second.answers_to(script, folder));
+        let run = first.answers_to(script, folder);
+        (run, other.join().expect("a program can be run"))
+    });
+    let answers = answers_of(&run.answers);
+    let parted = match run.status {
+        None => Some(format!(
+            "{} did not end by itself{}",
+            first.name,
+            said(&run)
+        )),
+        Some(status) => departure(script, &answers, status, &other).map(|told| {
+            let (first, second) = (&first.name, &second.name);
+            format!("{first} is what is expected and {second} what is found; {told}")
+        }),
+    };
+    (answers, parted)
+}
+
+/// Two answers that differ, from a little before the place where they do.
+fn told_apart(expected: Option<&Vec<u8>>, found: Option<&Vec<u8>>) -> String {
+    let (expected, found) = match (expected, found) {
+        (Some(expected), Some(found)) => (expected, found),
+        (Some(expected), None) => return format!("expected {}, found none", shown(expected)),
+        (None, Some(found)) => return format!("expected none, found {}", shown(found)),
+        (None, None) => return String::from("there is none on either side"),
+    };
+    let equal = expected.iter().zip(found).take_while(|(a, b)| a == b);
+    let equal = equal.count();
+    if equal < 200 {
+        return format!("expected {}, found {}", shown(expected), shown(found));
+    }
+    let from = equal - 40;
+    let (expected, found) = (shown(&expected[from..]), shown(&found[from..]));
+    format!("from byte {from} on expected {expected}, found {found}")
+}
+
+/// What a program said on standard error, for a report.
+fn said(run: &Run) -> String {
+    if run.said.is_empty() {
+        return String::new();
+    }
+    format!("; standard error: {}", shown(&run.said))
+}
+
+/// The line number and the text of the call that the answer at `place` belongs to.
+fn call_of_answer(script: &[u8], place: usize) -> Option<(usize, &[u8])> {
+    let lines = script.split(|&byte| byte == b'\n').enumerate();
+    let mut asking = lines.filter(|(_, line)| {
+        let comment = line.iter().position(|&byte| byte == b'#');
+        let call = &line[..comment.unwrap_or(line.len())];
+        let call = match comment {
+            None => call.strip_suffix(b"\r").unwrap_or(call),
+            Some(_) => call,
+        };
+        call.iter().any(|byte| !matches!(byte, b' ' | b'\t'))
+    });
+    asking.nth(place).map(|(at, line)| (at + 1, line))
+}
+
+/// Bytes as a report shows them: on one line, and cut where they are long.
+pub fn shown(bytes: &[u8]) -> String {
+    const MOST: usize = 300;
+    let start = &bytes[..bytes.len().min(MOST)];
+    let rest = if bytes.len() > MOST { "..." } else { "" };
+    format!("'{}{rest}'", start.escape_ascii())
+}
+
+#[cfg(test)]
+mod tests {
+    use super::*;
+
+    fn run(answers: &str, status: i32) -> Run {
+        Run {
+            answers: answers.into(),
+            said: Vec::new(),
+            status: Some(status),
+        }
+    }
+
+    fn told(expected: &str, status: i32, found: &Run) -> Option<String> {
+        departure(
+            b"one\n# no call\ntwo",
+            &answers_of(expected.as_bytes()),
+            status,
+            found,
+        )
+    }
+
+    #[test]
+    fn equal_answers_do_not_part() {
+        assert_eq!(told("ok\nyes\n", 0, &run("ok\nyes\n", 0)), None);
+        assert_eq!(told("", 0, &run("", 0)), None);
+    }
+
+    #[test]
+    fn reasons_of_bad_lines_are_not_compared() {
+        let found = run("bad line: so\nok\n", 1);
+        assert_eq!(told("bad line: other words\nok\n", 1, &found), None);
+        assert_eq!(told("bad line\nok\n", 1, &found), None);
+    }
+
+    #[test]
+    fn a_bad_line_needs_a_reason() {
+        assert!(told("bad line: why\n", 1, &run("bad line: \n", 1)).is_some());
+        assert!(told("bad line: why\n", 1, &run("bad line:\n", 1)).is_some());
+    }
+
+    #[test]
+    fn every_way_to_part_is_told() {
+        let other = told("ok\nyes\n", 0, &run("ok\nno\n", 0)).unwrap();
+        assert_eq!(
+            other,
+            "answer 2, to line 3, 'two': expected 'yes', found 'no'"
+        );
+        for (expected, found) in [
+            ("ok\n", run("ok\nok\n", 0)),
+            ("ok\nok\n", run("ok\n", 0)),
+            ("ok\n", run("ok", 0)),
+            ("ok\n", run("ok \n", 0)),
+            ("ok\n", run("ok\n\n", 0)),
+            ("ok\n", run("ok\n", 1)),
+        ] {
+            assert!(told(expected, 0, &found).is_some(), "{expected:?}");
+        }
+    }
+
+    #[test]
+    fn long_answers_are_told_apart_where_they_differ() {
+        let (expected, found) = ("a".repeat(1000) + "b\n", "a".repeat(1000) + "c\n");
+        let told = told(&expected, 0, &run(&found, 0)).unwrap();
+        assert!(told.contains("from byte 960 on"), "{told}");
+        assert!(told.contains("ab', found") && told.ends_with("ac'"));
+    }
+
+    #[test]
+    fn the_status_follows_from_the_answers() {
+        assert_eq!(status_after(&answers_of(b"ok\nrefused 8\n")), 0);
+        assert_eq!(status_after(&answers_of(b"ok\nbad line: x\n")), 1);
+    }
+}

@@ -1,0 +1,9 @@
+//! Sets the tool and the second program side by side: two answers that differ are a fault in one of them.
+
+pub mod cases;
+pub mod compare;
+pub mod programs;
+pub mod random;
+pub mod search;
+pub mod shrink;
+pub mod subjects;

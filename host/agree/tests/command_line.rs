@@ -1,0 +1,118 @@
+//! The tool as people start it: its words, its messages, its statuses.
+
+use agree::cases;
+use agree::programs::{built, run, Program, Run};
+use std::ffi::OsStr;
+use std::io::Read;
+use std::process::{Command, Stdio};
+
+/// The tool with some words, and nothing on standard input.
+fn tool(words: &[&str]) -> Run {
+    run(command(words), b"")
+}
+
+fn command(words: &[&str]) -> Command {
+    let program = built("kpalumere");
+    let mut command = Command::new(&program[0]);
+    command
+        .args(&program[1..])
+        .args(words)
+        .current_dir(cases::folder());
+    command
+}
+
+fn text(bytes: &[u8]) -> String {
+    String::from_utf8(bytes.to_vec()).expect("the tool writes text")
+}
+
+#[test]
+fn help_and_version_are_printed() {
+    for words in [&["--help"][..], &["-h"], &["help"]] {
+        let run = tool(words);
+        assert_eq!((run.status, text(&run.said)), (Some(0), String::new()));
+        assert!(text(&run.answers).contains("kpalumere ask [FILE]"));
+    }
+    for words in [&["ask", "--help"][..], &["ask", "-h"], &["help", "ask"]] {
+        let run = tool(words);
+        assert_eq!((run.status, text(&run.said)), (Some(0), String::new()));
+        assert!(text(&run.answers).contains("buffer NAME LENGTH [BYTE]"));
+    }
+    let run = tool(&["--version"]);
+    assert_eq!(run.status, Some(0));
+    let version = text(&run.answers);
+    let numbers = version.strip_prefix("kpalumere ").unwrap().trim_end();
+    assert_eq!(numbers.split('.').count(), 3, "{version}");
+}
+
+#[test]
+fn wrong_words_end_with_2_and_say_what_to_do() {
+    for words in [
+        &[][..],
+        &["nonsense"],
+        &["ask", "a", "b"],
+        &["ask", "--fast"],
+        &["--help", "x"],
+    ] {
+        let run = tool(words);
+        assert_eq!(
+            (run.status, text(&run.answers)),
+            (Some(2), String::new()),
+            "{words:?}"
+        );
+        assert!(text(&run.said).starts_with("kpalumere: "), "{words:?}");
+        assert!(text(&run.said).contains("kpalumere ask") || text(&run.said).contains("--help"));
+    }
+}
+
+#[test]
+fn calls_that_cannot_be_read_end_with_3() {
+    for program in [Program::tool(), Program::second()] {
+        for file in ["there-is-none.ask", "data", "lines.ask/none"] {
+            let run = program.answers_to_file(OsStr::new(file), &cases::folder());
+            assert_eq!(
+                (run.status, text(&run.answers)),
+                (Some(3), String::new()),
+                "{file}"
+            );
+            assert!(text(&run.said).contains(file), "{}: {file}", program.name);
+        }
+    }
+}
+
+#[test]
+fn a_reader_that_has_seen_enough_is_no_fault() {
+    // Far more answers than a pipe holds, and one of them read.
+    let script = "buffer a 100\nshow a 0 100\n".repeat(20_000);
+    let mut child = command(&["ask"])
+        .stdin(Stdio::piped())
+        .stdout(Stdio::piped())
+        .stderr(Stdio::piped())
+        .spawn()
+        .unwrap();
+    let mut calls = child.stdin.take().unwrap();
+    let writing = std::thread::spawn(move || {
+        drop(std::io::Write::write_all(&mut calls, script.as_bytes()));
+    });
+    let mut answers = child.stdout.take().unwrap();
+    answers.read_exact(&mut [0; 12]).unwrap();
+    drop(answers);
+    let output = child.wait_with_output().unwrap();
+    writing.join().unwrap();
+    assert_eq!(
+        (output.status.code(), text(&output.stderr)),
+        (Some(0), String::new())
+    );
+}
+
+#[test]
+fn output_that_cannot_be_written_ends_with_3() {
+    for words in [&["--help"][..], &["ask", "lines.ask"]] {
+        let full = std::fs::OpenOptions::new()
+            .write(true)
+            .open("/dev/full")
+            .unwrap();
+        let output = command(words).stdout(full).output().unwrap();
+        assert_eq!(output.status.code(), Some(3), "{words:?}");
+        assert!(text(&output.stderr).contains("cannot be written"));
+    }
+}

@@ -1,0 +1,113 @@
+//! The checksum of document 01: Fletcher's 32-bit sum over lent bytes.
+
+use crate::answer::{answer_of, Answer};
+
+extern "C" {
+    fn kpalumere_checksum(
+        bytes: *const u8,
+        bytes_len: usize,
+        words: *mut u64,
+        words_len: usize,
+    ) -> u64;
+}
+
+/// The exported call, with the words as a caller lends them.
+fn checksum_into(bytes: &[u8], words: &mut [u64]) -> u64 {
+    // SAFETY: a slice of Rust is aligned, not null and as long as it says, and a shared and a mutable one never
+    // overlap. The library is proved to read and write nothing else.
+    unsafe { kpalumere_checksum(bytes.as_ptr(), bytes.len(), words.as_mut_ptr(), words.len()) }
+}
+
+/// The checksum of the lent bytes, taken as 16-bit words; a last odd byte has no part in it. A directory holds the
+/// checksum of its bytes from 8 on in the four bytes at 4.
+pub fn checksum(bytes: &[u8]) -> Answer<u64> {
+    answer_of(
+        |words: &mut [u64; 1]| checksum_into(bytes, words),
+        |words| words[0],
+    )
+}
+
+#[cfg(test)]
+mod tests {
+    use super::*;
+
+    /// The paper's sentence, word by word: S and T over all 16-bit words, modulo 65,535, with 0 written as 65,535.
+    fn by_the_paper(bytes: &[u8]) -> u64 {
+        let words: Vec<u64> = bytes
+            .chunks_exact(2)
+            .map(|pair| u64::from(pair[0]) + 256 * u64::from(pair[1]))
+            .collect();
+        let count = words.len() as u64;
+        let sum: u64 = words.iter().sum();
+        let weighted: u64 = (0..count).map(|i| words[i as usize] * (count - i)).sum();
+        let folded = |sum: u64| match sum % 65_535 {
+            0 => 65_535,
+            rest => rest,
+        };
+        folded(weighted) * 65_536 + folded(sum)
+    }
+
+    /// Bytes that look random and are the same at each run.
+    fn mixed_bytes(length: usize) -> Vec<u8> {
+        let mut state = 1u32;
+        let mut bytes = Vec::with_capacity(length);
+        for _ in 0..length {
+            state = state.wrapping_mul(1_664_525).wrapping_add(1_013_904_223);
+            bytes.push((state >> 24) as u8);
+        }
+        bytes
+    }
+
+    #[test]
+    fn empty_directory_has_value_m1() {
+        assert_eq!(checksum(&[0; 8]), Ok(0xFFFF_FFFF));
+    }
+
+    #[test]
+    fn directory_of_one_entry_has_value_m2() {
+        // From byte 8 on: total 1, zero; then type 1, subprogram 0, size 0x100, location 0x1000 in mode 1.
+        let mut bytes = vec![1, 0, 0, 0, 0, 0, 0, 0];
+        bytes.extend([1, 0, 0, 0, 0, 1, 0, 0]);
+        bytes.extend(0x4000_0000_0000_1000u64.to_le_bytes());
+        assert_eq!(checksum(&bytes), Ok(0x8614_5102));
+    }
+
+    #[test]
+    fn no_bytes_have_both_halves_65535() {
+        assert_eq!(checksum(&[]), Ok(0xFFFF_FFFF));
+    }
+
+    #[test]
+    fn the_largest_directory_is_as_the_paper_says() {
+        for length in [2, 4, 30, 718, 720, 8 + 16 * 512] {
+            let bytes = mixed_bytes(length);
+            assert_eq!(checksum(&bytes), Ok(by_the_paper(&bytes)), "{length} bytes");
+            let full = vec![0xFF; length];
+            assert_eq!(checksum(&full), Ok(by_the_paper(&full)), "{length} of 0xFF");
+        }
+    }
+
+    #[test]
+    fn a_last_odd_byte_has_no_part_in_it() {
+        let bytes = mixed_bytes(31);
+        assert_eq!(checksum(&bytes), checksum(&bytes[..30]));
+    }
+
+    #[test]
+    fn bytes_at_an_odd_address_are_read_as_any_others() {
+        let bytes = mixed_bytes(65);
+        assert_eq!(checksum(&bytes[1..]), Ok(by_the_paper(&bytes[1..])));
+    }
+
+    #[test]
+    fn without_room_for_the_word_the_answer_is_12() {
+        assert_eq!(checksum_into(&[0; 8], &mut []), 12);
+    }
+
+    #[test]
+    fn words_past_the_first_are_kept() {
+        let mut words = [7, 8, 9];
+        assert_eq!(checksum_into(&[0; 8], &mut words), 0);
+        assert_eq!(words, [0xFFFF_FFFF, 8, 9]);
+    }
+}

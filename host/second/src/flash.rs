@@ -1,0 +1,490 @@
+//! Flash image: from the image to its directories, their entries and bytes, lookups, views, and
+//! the writing of directories.
+
+use crate::little_endian::{put, u16_at, u32_at, u64_at};
+use crate::refusal::{require, Refusal};
+
+/// The longest flash image.
+const LONGEST_IMAGE: usize = 16_777_216;
+/// Where the window of physical addresses onto the flash begins, and its last address.
+const WINDOW_FIRST: u64 = 0xFF00_0000;
+const WINDOW_LAST: u64 = 0xFFFF_FFFF;
+/// Pointers below this are flash offsets.
+const POINTER_OFFSETS_END: u32 = 0x0100_0000;
+/// Where an EFS may lie, in the order of trial.
+const EFS_CANDIDATES: [PhysicalAddress; 6] = [
+    PhysicalAddress(0xFFFA_0000),
+    PhysicalAddress(0xFFF2_0000),
+    PhysicalAddress(0xFFE2_0000),
+    PhysicalAddress(0xFFC2_0000),
+    PhysicalAddress(0xFF82_0000),
+    PhysicalAddress(0xFF02_0000),
+];
+const EFS_LENGTH: u64 = 0x24;
+const EFS_SIGNATURE: [u8; 4] = [0xAA, 0x55, 0xAA, 0x55];
+/// Length of a directory's header, and of each entry.
+const HEADER: usize = 16;
+const ENTRY: usize = 16;
+/// Most entries in a directory.
+const MOST_ENTRIES: u32 = 512;
+/// The type of an entry that leads to a level-two directory.
+const LEADS_TO_LEVEL_TWO: u8 = 0x40;
+/// The type of an entry that is a value and has no bytes.
+const IS_A_VALUE: u8 = 0x0B;
+/// Locations are below this: 62 bits.
+const LOCATION_END: u64 = 1 << 62;
+
+/// An x86 physical address.
+#[derive(Clone, Copy, Debug, PartialEq, Eq)]
+pub struct PhysicalAddress(pub u64);
+
+/// An offset from the start of the flash image.
+#[derive(Clone, Copy, Debug, PartialEq, Eq)]
+pub struct FlashOffset(pub u64);
+
+impl PhysicalAddress {
+    /// The flash offset that the address names; an address outside the window is 7.
+    pub fn flash_offset(self) -> Result<FlashOffset, Refusal> {
+        require(self.0 >= WINDOW_FIRST && self.0 <= WINDOW_LAST, 7)?;
+        Ok(FlashOffset(self.0 - WINDOW_FIRST))
+    }
+}
+
+/// The two levels of directory.
+#[derive(Clone, Copy, Debug, PartialEq, Eq)]
+pub enum Level {
+    One,
+    Two,
+}
+
+impl Level {
+    /// The level of that number; any but 1 and 2 is 9.
+    pub fn numbered(number: u32) -> Result<Level, Refusal> {
+        match number {
+            1 => Ok(Level::One),
+            2 => Ok(Level::Two),
+            _ => Err(Refusal::of(9)),
+        }
+    }
+
+    /// The level's number.
+    pub fn number(self) -> u32 {
+        match self {
+            Level::One => 1,
+            Level::Two => 2,
+        }
+    }
+
+    /// The four bytes with which a directory of the level starts.
+    pub fn cookie(self) -> &'static [u8; 4] {
+        match self {
+            Level::One => b"$PSP",
+            Level::Two => b"$PL2",
+        }
+    }
+}
+
+/// One entry of a directory.
+#[derive(Clone, Copy, Debug, PartialEq, Eq)]
+pub struct Entry {
+    pub kind: u8,
+    pub subprogram: u8,
+    pub size: u32,
+    /// The location or value: 62 bits where it was read, any number where it is to be written.
+    pub location: u64,
+    /// The address mode: 0 to 3 where it was read, any number where it is to be written.
+    pub mode: u32,
+}
+
+impl Entry {
+    /// The fields of an entry's sixteen bytes.
+    fn read(bytes: &[u8]) -> Entry {
+        let last = u64_at(bytes, 8);
+        Entry {
+            kind: bytes[0],
+            subprogram: bytes[1],
+            size: u32_at(bytes, 4),
+            location: last % LOCATION_END,
+            mode: (last / LOCATION_END) as u32,
+        }
+    }
+
+    /// The entry's sixteen bytes. Location and mode are within their limits.
+    fn written(&self) -> [u8; ENTRY] {
+        let mut bytes = [0; ENTRY];
+        bytes[0] = self.kind;
+        bytes[1] = self.subprogram;
+        put(&mut bytes, 4, &self.size.to_le_bytes());
+        let last = self.location + u64::from(self.mode) * LOCATION_END;
+        put(&mut bytes, 8, &last.to_le_bytes());
+        bytes
+    }
+
+    /// Whether a lookup for type and subprogram is for this entry.
+    fn matches(&self, kind: u8, subprogram: u8) -> bool {
+        self.kind == kind && self.subprogram == subprogram
+    }
+
+    /// The flash offset that location and mode name, for an entry of the directory at `o`.
+    fn flash_offset(&self, o: u64) -> Result<FlashOffset, Refusal> {
+        match self.mode {
+            0 => PhysicalAddress(self.location).flash_offset(),
+            1 => Ok(FlashOffset(self.location)),
+            // No sum here passes 2^64: o is at most an image's length, a location has 62 bits.
+            2 => Ok(FlashOffset(o + self.location)),
+            _ => Err(Refusal::of(16)),
+        }
+    }
+}
+
+/// The part of the lent image that holds an entry's bytes.
+#[derive(Clone, Copy, Debug, PartialEq, Eq)]
+pub struct Part {
+    /// Its offset in the lent image.
+    pub place: u64,
+    pub length: u64,
+}
+
+/// What a lookup in one directory found.
+#[derive(Clone, Copy, Debug, PartialEq, Eq)]
+pub struct Found {
+    pub index: u64,
+    pub tested: u64,
+}
+
+/// What a lookup in the whole image found.
+#[derive(Clone, Copy, Debug, PartialEq, Eq)]
+pub struct FoundInImage {
+    /// The offset of the match's directory.
+    pub place: u64,
+    /// The level of the match's directory.
+    pub level: Level,
+    pub index: u64,
+    pub tested: u64,
+}
+
+/// A directory that has passed every check of its level.
+#[derive(Clone, Copy, Debug, PartialEq, Eq)]
+pub struct Directory<'a> {
+    image: &'a [u8],
+    /// Where it begins in the lent bytes.
+    pub place: u64,
+    pub level: Level,
+    /// How many entries it has.
+    pub total: u32,
+}
+
+/// Whether the bytes from `o` on, `length` of them, lie in the lent bytes.
+fn lies_in(bytes: &[u8], o: u64, length: u64) -> bool {
+    match o.checked_add(length) {
+        Some(end) => end <= bytes.len() as u64,
+        None => false,
+    }
+}
+
+/// Fletcher's 32-bit sum, as document 01 fixes it, over the bytes from 8 to the end of the entries.
+pub fn checksum(bytes: &[u8]) -> u32 {
+    let m = (bytes.len() / 2) as u64;
+    // At most 4,100 words of 16 bits with weights of 13 bits: neither sum comes near 2^64.
+    let (mut s, mut t) = (0, 0);
+    for (k, word) in bytes.chunks_exact(2).enumerate() {
+        let word = u64::from(u16_at(word, 0));
+        s += word;
+        t += word * (m - k as u64);
+    }
+    (half(t) << 16) | half(s)
+}
+
+/// A sum modulo 65,535, with 0 written as 65,535.
+fn half(sum: u64) -> u32 {
+    match sum % 65_535 {
+        0 => 65_535,
+        rest => rest as u32,
+    }
+}
+
+/// The level of the directory at `o`, by its cookie.
+fn level_by_cookie(bytes: &[u8], o: u64) -> Result<Level, Refusal> {
+    require(lies_in(bytes, o, HEADER as u64), 1)?;
+    for level in [Level::One, Level::Two] {
+        if bytes[o as usize..].starts_with(level.cookie()) {
+            return Ok(level);
+        }
+    }
+    Err(Refusal::of(2))
+}
+
+/// The checks of a directory of that level at `o`.
+fn checked_directory(bytes: &[u8], o: u64, level: Level) -> Result<Directory<'_>, Refusal> {
+    // 16 bytes present
+    require(lies_in(bytes, o, HEADER as u64), 1)?;
+    let from_o = &bytes[o as usize..];
+    // cookie of the level
+    require(from_o[0..4] == *level.cookie(), 2)?;
+    // total within its limit
+    let n = u32_at(from_o, 8);
+    require(n <= MOST_ENTRIES, 3)?;
+    // all entries present
+    let length = HEADER + ENTRY * n as usize;
+    require(from_o.len() >= length, 1)?;
+    // checksum
+    require(u32_at(from_o, 4) == checksum(&from_o[8..length]), 4)?;
+    // header reserved
+    require(u32_at(from_o, 0x0C) == 0, 5)?;
+    // entry by entry: reserved, then a misplaced 0x40
+    for entry in from_o[HEADER..length].chunks_exact(ENTRY) {
+        require(u16_at(entry, 2) == 0, 5)?;
+        require(level == Level::One || entry[0] != LEADS_TO_LEVEL_TWO, 14)?;
+    }
+    Ok(Directory {
+        image: bytes,
+        place: o,
+        level,
+        total: n,
+    })
+}
+
+impl<'a> Directory<'a> {
+    /// All entries in their order.
+    fn entries(&self) -> impl Iterator<Item = Entry> + 'a {
+        let first = self.place as usize + HEADER;
+        let end = first + ENTRY * self.total as usize;
+        self.image[first..end].chunks_exact(ENTRY).map(Entry::read)
+    }
+
+    /// Entry `index`; at or above the total it is 8, whatever bytes follow.
+    pub fn entry(&self, index: u64) -> Result<Entry, Refusal> {
+        require(index < u64::from(self.total), 8)?;
+        let at = self.place as usize + HEADER + ENTRY * index as usize;
+        Ok(Entry::read(&self.image[at..at + ENTRY]))
+    }
+
+    /// Where the bytes of entry `index` lie in the image.
+    pub fn bytes(&self, index: u64) -> Result<Part, Refusal> {
+        // index (8)
+        let entry = self.entry(index)?;
+        // a value has no bytes
+        require(entry.kind != IS_A_VALUE, 17)?;
+        // mode 3 (16), a physical address outside the window (7)
+        let FlashOffset(place) = entry.flash_offset(self.place)?;
+        // the range ends within the image
+        let length = u64::from(entry.size);
+        require(lies_in(self.image, place, length), 7)?;
+        Ok(Part { place, length })
+    }
+
+    /// The lowest entry of that type and subprogram.
+    pub fn find(&self, kind: u8, subprogram: u8) -> Result<Found, Refusal> {
+        for (index, entry) in (0..).zip(self.entries()) {
+            if entry.matches(kind, subprogram) {
+                return Ok(Found {
+                    index,
+                    tested: index + 1,
+                });
+            }
+        }
+        Err(Refusal::not_found(u64::from(self.total)))
+    }
+
+    /// The level-two directory to which an entry of this directory leads, checked.
+    fn follow(&self, entry: &Entry) -> Result<Directory<'a>, Refusal> {
+        // mode 3 (16), a physical address outside the window (7)
+        let FlashOffset(o) = entry.flash_offset(self.place)?;
+        // beyond the image; the entry's size has no part in it
+        require(o <= self.image.len() as u64, 7)?;
+        checked_directory(self.image, o, Level::Two)
+    }
+}
+
+/// Neither empty nor too long.
+fn check_image_length(image: &[u8]) -> Result<(), Refusal> {
+    require(!image.is_empty() && image.len() <= LONGEST_IMAGE, 15)
+}
+
+/// Where the EFS lies: the first candidate that counts.
+fn find_efs(image: &[u8]) -> Result<usize, Refusal> {
+    for candidate in EFS_CANDIDATES {
+        let FlashOffset(o) = candidate.flash_offset()?;
+        if lies_in(image, o, EFS_LENGTH) && image[o as usize..].starts_with(&EFS_SIGNATURE) {
+            return Ok(o as usize);
+        }
+    }
+    Err(Refusal::of(2))
+}
+
+/// Where the EFS says that the level-one directory lies.
+fn directory_pointer(image: &[u8]) -> Result<u64, Refusal> {
+    let efs = find_efs(image)?;
+    // the pointer at 0x14, or the one at 0x10 where that is absent
+    let present = |pointer: &u32| *pointer != 0 && *pointer != 0xFFFF_FFFF;
+    let pointers = [u32_at(image, efs + 0x14), u32_at(image, efs + 0x10)];
+    let pointer = match pointers.into_iter().find(present) {
+        Some(pointer) => pointer,
+        None => return Err(Refusal::of(8)),
+    };
+    // physical, a flash offset, or neither
+    let FlashOffset(o) = if u64::from(pointer) >= WINDOW_FIRST {
+        PhysicalAddress(u64::from(pointer)).flash_offset()?
+    } else if pointer < POINTER_OFFSETS_END {
+        FlashOffset(u64::from(pointer))
+    } else {
+        return Err(Refusal::of(7));
+    };
+    // beyond the image's length
+    require(o <= image.len() as u64, 7)?;
+    Ok(o)
+}
+
+/// The level-one directory of an image of good length.
+fn level_one(image: &[u8]) -> Result<Directory<'_>, Refusal> {
+    let o = directory_pointer(image)?;
+    checked_directory(image, o, Level::One)
+}
+
+/// The directory of that level.
+pub fn directory(image: &[u8], level: u32) -> Result<Directory<'_>, Refusal> {
+    let level = Level::numbered(level)?;
+    check_image_length(image)?;
+    let one = level_one(image)?;
+    if level == Level::One {
+        return Ok(one);
+    }
+    // the lowest entry of type 0x40 leads to level two
+    let leading = one.entries().find(|e| e.kind == LEADS_TO_LEVEL_TWO);
+    match leading {
+        Some(entry) => one.follow(&entry),
+        None => Err(Refusal::of(8)),
+    }
+}
+
+/// Entry `index` of the directory of that level.
+pub fn entry(image: &[u8], level: u32, index: u64) -> Result<Entry, Refusal> {
+    directory(image, level)?.entry(index)
+}
+
+/// Where the bytes of entry `index` of the directory of that level lie.
+pub fn bytes(image: &[u8], level: u32, index: u64) -> Result<Part, Refusal> {
+    directory(image, level)?.bytes(index)
+}
+
+/// Lookup in the directory of that level.
+pub fn find(image: &[u8], level: u32, kind: u8, subprogram: u8) -> Result<Found, Refusal> {
+    directory(image, level)
+        .map_err(Refusal::before_lookup)?
+        .find(kind, subprogram)
+}
+
+/// Lookup in the whole image.
+pub fn find_image(image: &[u8], kind: u8, subprogram: u8) -> Result<FoundInImage, Refusal> {
+    check_image_length(image)?;
+    let one = level_one(image).map_err(Refusal::before_lookup)?;
+    let mut tested = 0;
+    for (index, entry) in (0..).zip(one.entries()) {
+        // an entry is tested before it is followed
+        tested += 1;
+        if entry.matches(kind, subprogram) {
+            return Ok(FoundInImage {
+                place: one.place,
+                level: one.level,
+                index,
+                tested,
+            });
+        }
+        if entry.kind == LEADS_TO_LEVEL_TWO {
+            let two = one.follow(&entry)?;
+            match two.find(kind, subprogram) {
+                Ok(found) => {
+                    return Ok(FoundInImage {
+                        place: two.place,
+                        level: two.level,
+                        index: found.index,
+                        tested: tested + found.tested,
+                    })
+                }
+                // no match there: all of its entries were tested
+                Err(_) => tested += u64::from(two.total),
+            }
+        }
+    }
+    Err(Refusal::not_found(tested))
+}
+
+/// A view: the lent image and the place where a directory begins. It says nothing of what the
+/// image holds by now, so each call checks again, without the EFS.
+#[derive(Clone, Copy, Debug, PartialEq, Eq)]
+pub struct View<'a> {
+    pub image: &'a [u8],
+    pub place: u64,
+}
+
+impl<'a> View<'a> {
+    /// The view of the directory of that level.
+    pub fn of(image: &'a [u8], level: u32) -> Result<View<'a>, Refusal> {
+        let place = directory(image, level)?.place;
+        Ok(View { image, place })
+    }
+
+    /// What a refused view holds: no bytes, and place 0.
+    pub fn none() -> View<'static> {
+        View {
+            image: &[],
+            place: 0,
+        }
+    }
+
+    /// The directory, checked again.
+    fn directory(&self) -> Result<Directory<'a>, Refusal> {
+        check_image_length(self.image)?;
+        // the place is not beyond the image
+        require(self.place <= self.image.len() as u64, 7)?;
+        let level = level_by_cookie(self.image, self.place)?;
+        checked_directory(self.image, self.place, level)
+    }
+
+    /// As `Directory::entry`.
+    pub fn entry(&self, index: u64) -> Result<Entry, Refusal> {
+        self.directory()?.entry(index)
+    }
+
+    /// As `Directory::bytes`.
+    pub fn bytes(&self, index: u64) -> Result<Part, Refusal> {
+        self.directory()?.bytes(index)
+    }
+}
+
+/// Writes an empty directory of that level at the buffer's start.
+pub fn start(buffer: &mut [u8], level: u32) -> Result<(), Refusal> {
+    let level = Level::numbered(level)?;
+    // room
+    require(buffer.len() >= HEADER, 12)?;
+    put(buffer, 0, level.cookie());
+    put(buffer, 8, &[0; 8]);
+    let sum = checksum(&buffer[8..HEADER]);
+    put(buffer, 4, &sum.to_le_bytes());
+    Ok(())
+}
+
+/// Adds one entry to the directory at the buffer's start, and gives the new total.
+pub fn extend(buffer: &mut [u8], entry: &Entry) -> Result<u32, Refusal> {
+    // a good directory of either level, by its cookie
+    let level = level_by_cookie(buffer, 0)?;
+    let n = checked_directory(buffer, 0, level)?.total;
+    // location and mode within their limits
+    require(entry.location < LOCATION_END, 5)?;
+    require(entry.mode <= 3, 5)?;
+    // 0x40 has no place in level two
+    require(level == Level::One || entry.kind != LEADS_TO_LEVEL_TWO, 14)?;
+    // one more may be counted
+    require(n < MOST_ENTRIES, 3)?;
+    // room
+    let end = HEADER + ENTRY * n as usize;
+    require(buffer.len() >= end + ENTRY, 12)?;
+    put(buffer, end, &entry.written());
+    put(buffer, 8, &(n + 1).to_le_bytes());
+    let sum = checksum(&buffer[8..end + ENTRY]);
+    put(buffer, 4, &sum.to_le_bytes());
+    Ok(n + 1)
+}
+
+#[cfg(test)]
+mod tests;

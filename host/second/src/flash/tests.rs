@@ -1,0 +1,906 @@
+use super::*;
+
+/// The offset of the last EFS candidate, the only one in a short image.
+const EFS: usize = 0x2_0000;
+/// Length of the short image of most tests, and where its two directories lie.
+const L: usize = 0x2_3000;
+const ONE: usize = 0x2_1000;
+const TWO: usize = 0x2_2000;
+
+/// Fletcher's sum by two running sums: another way to it than the one under test.
+fn running_sums(bytes: &[u8]) -> u32 {
+    let (mut s, mut t) = (0u32, 0u32);
+    for pair in bytes.chunks(2) {
+        s = (s + u32::from(pair[0]) + 256 * u32::from(pair[1])) % 65_535;
+        t = (t + s) % 65_535;
+    }
+    let nonzero = |half: u32| if half == 0 { 65_535 } else { half };
+    nonzero(t) * 65_536 + nonzero(s)
+}
+
+/// An entry's bytes, written field by field.
+fn raw(kind: u8, subprogram: u8, size: u32, location: u64, mode: u8) -> [u8; 16] {
+    let mut bytes = [0; 16];
+    bytes[0] = kind;
+    bytes[1] = subprogram;
+    bytes[4..8].copy_from_slice(&size.to_le_bytes());
+    bytes[8..16].copy_from_slice(&location.to_le_bytes());
+    bytes[15] |= mode << 6;
+    bytes
+}
+
+fn put_efs(image: &mut [u8], at: usize, at_14: u32, at_10: u32) {
+    put(image, at, &[0xAA, 0x55, 0xAA, 0x55]);
+    put(image, at + 0x10, &at_10.to_le_bytes());
+    put(image, at + 0x14, &at_14.to_le_bytes());
+}
+
+fn put_directory(image: &mut [u8], o: usize, cookie: &[u8; 4], entries: &[[u8; 16]]) {
+    put(image, o, cookie);
+    put(image, o + 8, &(entries.len() as u32).to_le_bytes());
+    put(image, o + 12, &[0; 4]);
+    put(image, o + 16, &entries.concat());
+    seal(image, o);
+}
+
+/// Writes the checksum that fits the directory's bytes.
+fn seal(image: &mut [u8], o: usize) {
+    let end = o + 16 + 16 * u32_at(image, o + 8) as usize;
+    let sum = running_sums(&image[o + 8..end]);
+    put(image, o + 4, &sum.to_le_bytes());
+}
+
+/// A short image with these entries in level one.
+fn image_of(entries: &[[u8; 16]]) -> Vec<u8> {
+    let mut image = vec![0; L];
+    put_efs(&mut image, EFS, ONE as u32, 0);
+    put_directory(&mut image, ONE, b"$PSP", entries);
+    image
+}
+
+/// A short image with level two behind a 0x40 entry between two others.
+fn image_of_two(level_two: &[[u8; 16]]) -> Vec<u8> {
+    let mut image = image_of(&[
+        raw(1, 0, 0, 0, 1),
+        raw(0x40, 0, 0, TWO as u64, 1),
+        raw(2, 0, 0, 0, 1),
+    ]);
+    put_directory(&mut image, TWO, b"$PL2", level_two);
+    image
+}
+
+/// The refusal's number, which must come without a count.
+fn number<T: std::fmt::Debug>(result: Result<T, Refusal>) -> u8 {
+    let refusal = result.expect_err("accepted");
+    assert_eq!(refusal.tested, None);
+    refusal.number
+}
+
+fn entry_of(kind: u8, location: u64, mode: u32) -> Entry {
+    Entry {
+        kind,
+        subprogram: 0,
+        size: 0,
+        location,
+        mode,
+    }
+}
+
+// The window
+
+#[test]
+fn the_window_is_sixteen_mebibytes_below_four_gibibytes() {
+    let offset = |address| PhysicalAddress(address).flash_offset();
+    assert_eq!(offset(0xFF00_0000), Ok(FlashOffset(0)));
+    assert_eq!(offset(0xFFFF_FFFF), Ok(FlashOffset(0xFF_FFFF)));
+    assert_eq!(number(offset(0xFEFF_FFFF)), 7);
+    assert_eq!(number(offset(0x1_0000_0000)), 7);
+    assert_eq!(number(offset(0)), 7);
+}
+
+// Level, image length, EFS
+
+#[test]
+fn the_level_comes_before_the_image_length() {
+    for level in [0, 3, u32::MAX] {
+        assert_eq!(number(directory(&[], level)), 9);
+        assert_eq!(number(entry(&[], level, 0)), 9);
+        assert_eq!(number(bytes(&[], level, 0)), 9);
+        assert_eq!(number(find(&[], level, 0, 0)), 9);
+        assert_eq!(number(View::of(&[], level)), 9);
+    }
+    for level in [1, 2] {
+        assert_eq!(number(directory(&[], level)), 15);
+    }
+}
+
+#[test]
+fn the_image_length_has_both_limits() {
+    assert_eq!(number(find_image(&[], 0, 0)), 15);
+    assert_eq!(number(find_image(&[0], 0, 0)), 2);
+    let mut image = vec![0; LONGEST_IMAGE + 1];
+    put_efs(&mut image, EFS, 0x100, 0);
+    put_directory(&mut image, 0x100, b"$PSP", &[]);
+    assert_eq!(number(directory(&image, 1)), 15);
+    image.pop();
+    assert_eq!(directory(&image, 1).map(|d| d.place), Ok(0x100));
+}
+
+#[test]
+fn an_efs_needs_all_of_its_bytes() {
+    let mut image = vec![0; EFS + 0x24];
+    put_efs(&mut image, EFS, 0x100, 0);
+    put_directory(&mut image, 0x100, b"$PSP", &[]);
+    assert_eq!(directory(&image, 1).map(|d| d.place), Ok(0x100));
+    image.pop();
+    assert_eq!(number(directory(&image, 1)), 2);
+}
+
+#[test]
+fn an_efs_needs_each_byte_of_its_signature() {
+    let good = image_of(&[]);
+    assert!(directory(&good, 1).is_ok());
+    for k in 0..4 {
+        let mut image = good.clone();
+        image[EFS + k] ^= 1;
+        assert_eq!(number(directory(&image, 1)), 2);
+    }
+}
+
+#[test]
+fn the_candidates_are_tried_in_the_order_of_the_paper() {
+    let offsets = [0xFA_0000, 0xF2_0000, 0xE2_0000, 0xC2_0000, 0x82_0000, EFS];
+    let mut image = vec![0; LONGEST_IMAGE];
+    for (k, at) in offsets.into_iter().enumerate() {
+        let o = 0x1000 * (k + 1);
+        put_efs(&mut image, at, o as u32, 0);
+        put_directory(&mut image, o, b"$PSP", &[]);
+    }
+    for (k, at) in offsets.into_iter().enumerate() {
+        let place = 0x1000 * (k as u64 + 1);
+        assert_eq!(directory(&image, 1).map(|d| d.place), Ok(place));
+        image[at] = 0;
+    }
+    assert_eq!(number(directory(&image, 1)), 2);
+}
+
+#[test]
+fn a_bad_first_efs_does_not_lead_to_the_next() {
+    let mut image = vec![0; 0x82_0000 + 0x24];
+    put_efs(&mut image, EFS, ONE as u32, 0);
+    put_directory(&mut image, ONE, b"$PSP", &[]);
+    assert!(directory(&image, 1).is_ok());
+    put_efs(&mut image, 0x82_0000, 0, 0);
+    assert_eq!(number(directory(&image, 1)), 8);
+    put_efs(&mut image, 0x82_0000, 0x1234_5678, 0);
+    assert_eq!(number(directory(&image, 1)), 7);
+    // cut off by the image's end, it is passed over
+    image.pop();
+    assert!(directory(&image, 1).is_ok());
+}
+
+// Pointers
+
+#[test]
+fn the_later_pointer_wins_and_the_early_one_stands_in_for_it() {
+    let mut image = image_of(&[]);
+    put_directory(&mut image, 0x100, b"$PSP", &[]);
+    let place = |image: &[u8]| directory(image, 1).map(|d| d.place);
+    put_efs(&mut image, EFS, ONE as u32, 0x100);
+    assert_eq!(place(&image), Ok(ONE as u64));
+    for absent in [0, 0xFFFF_FFFF] {
+        put_efs(&mut image, EFS, absent, 0x100);
+        assert_eq!(place(&image), Ok(0x100));
+        for early in [0, 0xFFFF_FFFF] {
+            put_efs(&mut image, EFS, absent, early);
+            assert_eq!(number(place(&image)), 8);
+        }
+    }
+}
+
+#[test]
+fn a_wrong_later_pointer_does_not_lead_to_the_early_one() {
+    let mut image = image_of(&[]);
+    for wrong in [0x1234_5678, 0x0100_0000, 0xFEFF_FFFF, 0xFFFF_FFFE] {
+        put_efs(&mut image, EFS, wrong, ONE as u32);
+        assert_eq!(number(directory(&image, 1)), 7, "{:#x}", wrong);
+    }
+}
+
+#[test]
+fn pointers_are_physical_or_offsets_by_their_value() {
+    let mut image = vec![0; LONGEST_IMAGE];
+    put_directory(&mut image, 0, b"$PSP", &[]);
+    put_directory(&mut image, 0xFF_FFF0, b"$PSP", &[]);
+    let mut place = |pointer| {
+        put_efs(&mut image, EFS, pointer, 0);
+        directory(&image, 1).map(|d| d.place)
+    };
+    assert_eq!(place(0xFF00_0000), Ok(0));
+    assert_eq!(place(0xFFFF_FFF0), Ok(0xFF_FFF0));
+    assert_eq!(place(0x00FF_FFF0), Ok(0xFF_FFF0));
+    assert_eq!(number(place(0x00FF_FFF1)), 1);
+    assert_eq!(number(place(0x00FF_FFFF)), 1);
+    assert_eq!(number(place(0xFFFF_FFFE)), 1);
+    // just outside on both sides, in the longest image too
+    assert_eq!(number(place(0x0100_0000)), 7);
+    assert_eq!(number(place(0xFEFF_FFFF)), 7);
+}
+
+#[test]
+fn a_pointer_to_the_image_length_goes_on_and_one_beyond_is_7() {
+    let mut image = image_of(&[]);
+    for base in [0, 0xFF00_0000] {
+        put_efs(&mut image, EFS, base + L as u32, 0);
+        assert_eq!(number(directory(&image, 1)), 1);
+        put_efs(&mut image, EFS, base + L as u32 + 1, 0);
+        assert_eq!(number(directory(&image, 1)), 7);
+    }
+}
+
+// The directory
+
+#[test]
+fn m1_and_m2_checksums() {
+    assert_eq!(checksum(&[0; 8]), 0xFFFF_FFFF);
+    let mut body = vec![1, 0, 0, 0, 0, 0, 0, 0];
+    body.extend(raw(1, 0, 0x100, 0x1000, 1));
+    assert_eq!(checksum(&body), 0x8614_5102);
+}
+
+#[test]
+fn the_weights_fall_from_m_to_1() {
+    // words 1, 2, 3, 4: S = 10, T = 4*1 + 3*2 + 2*3 + 1*4
+    assert_eq!(checksum(&[1, 0, 2, 0, 3, 0, 4, 0]), 20 << 16 | 10);
+}
+
+#[test]
+fn each_half_has_65535_for_0() {
+    // words 0xFFFE, 0, 0, 1: S = 65,535, T = 4*0xFFFE + 1 = -4 + 1
+    assert_eq!(checksum(&[0xFE, 0xFF, 0, 0, 0, 0, 1, 0]), 0xFFFC_FFFF);
+    // words 1, 0, 0, 0xFFFB: S = 0xFFFC, T = 4 + 0xFFFB = 65,535
+    assert_eq!(checksum(&[1, 0, 0, 0, 0, 0, 0xFB, 0xFF]), 0xFFFF_FFFC);
+}
+
+#[test]
+fn the_checksum_is_the_running_sums_over_full_directories_too() {
+    let mut body = vec![0xFF; 8 + 16 * 512];
+    assert_eq!(checksum(&body), running_sums(&body));
+    let mut state = 1u32;
+    for byte in &mut body {
+        state = state.wrapping_mul(1_103_515_245).wrapping_add(12_345);
+        *byte = (state >> 16) as u8;
+    }
+    assert_eq!(checksum(&body), running_sums(&body));
+}
+
+#[test]
+fn a_stored_half_of_0_never_matches() {
+    let mut image = image_of(&[]);
+    assert_eq!(u32_at(&image, ONE + 4), 0xFFFF_FFFF);
+    assert!(directory(&image, 1).is_ok());
+    for stored in [0, 0xFFFF_0000u32, 0x0000_FFFF] {
+        put(&mut image, ONE + 4, &stored.to_le_bytes());
+        assert_eq!(number(directory(&image, 1)), 4);
+    }
+}
+
+/// A directory of level two as a view meets it, every fault in it, the faults then put right one
+/// after the other: the numbers come in the order of the paper.
+#[test]
+fn the_directory_checks_come_in_their_order() {
+    let o = L - 48;
+    let mut image = image_of(&[raw(0x40, 0, 0, o as u64, 1)]);
+    put(&mut image, o, b"$PSP");
+    put(&mut image, o + 8, &513u32.to_le_bytes());
+    put(&mut image, o + 12, &[0, 0, 0, 1]);
+    let mut bad_entry = raw(0x40, 0, 0, 0, 0);
+    bad_entry[3] = 0x80;
+    put(&mut image, o + 16, &bad_entry);
+    put(&mut image, o + 32, &bad_entry);
+    let full = image.clone();
+    // too short for the header, whatever its bytes are
+    put(&mut image, ONE + 24, &(L as u64 - 15).to_le_bytes());
+    image[ONE + 31] |= 1 << 6;
+    seal(&mut image, ONE);
+    assert_eq!(number(directory(&image, 2)), 1);
+
+    let mut image = full;
+    assert_eq!(number(directory(&image, 2)), 2);
+    put(&mut image, o, b"$PL2");
+    assert_eq!(number(directory(&image, 2)), 3);
+    put(&mut image, o + 8, &3u32.to_le_bytes());
+    assert_eq!(number(directory(&image, 2)), 1);
+    put(&mut image, o + 8, &2u32.to_le_bytes());
+    assert_eq!(number(directory(&image, 2)), 4);
+    seal(&mut image, o);
+    assert_eq!(number(directory(&image, 2)), 5);
+    put(&mut image, o + 12, &[0; 4]);
+    seal(&mut image, o);
+    assert_eq!(number(directory(&image, 2)), 5);
+    image[o + 16 + 3] = 0;
+    seal(&mut image, o);
+    // entry by entry: the first one's 14 before the second one's 5
+    assert_eq!(number(directory(&image, 2)), 14);
+    image[o + 16] = 1;
+    seal(&mut image, o);
+    assert_eq!(number(directory(&image, 2)), 5);
+    image[o + 32 + 3] = 0;
+    seal(&mut image, o);
+    assert_eq!(number(directory(&image, 2)), 14);
+    image[o + 32] = 2;
+    seal(&mut image, o);
+    assert_eq!(directory(&image, 2).map(|d| d.total), Ok(2));
+}
+
+#[test]
+fn the_cookie_is_that_of_the_level_asked_for() {
+    let mut image = image_of_two(&[]);
+    assert_eq!(directory(&image, 1).map(|d| d.level), Ok(Level::One));
+    assert_eq!(directory(&image, 2).map(|d| d.level), Ok(Level::Two));
+    put(&mut image, TWO, b"$PSP");
+    assert_eq!(number(directory(&image, 2)), 2);
+    put(&mut image, ONE, b"$PL2");
+    assert_eq!(number(directory(&image, 1)), 2);
+    put(&mut image, ONE, b"$psp");
+    assert_eq!(number(directory(&image, 1)), 2);
+}
+
+#[test]
+fn n_is_at_most_512() {
+    let mut image = vec![0; EFS + 0x24];
+    put_efs(&mut image, EFS, 0x100, 0);
+    put_directory(&mut image, 0x100, b"$PSP", &[raw(1, 2, 3, 4, 1); 512]);
+    assert_eq!(directory(&image, 1).map(|d| d.total), Ok(512));
+    put_directory(&mut image, 0x100, b"$PSP", &[raw(1, 2, 3, 4, 1); 513]);
+    assert_eq!(number(directory(&image, 1)), 3);
+    put(&mut image, 0x108, &u32::MAX.to_le_bytes());
+    assert_eq!(number(directory(&image, 1)), 3);
+}
+
+#[test]
+fn too_large_a_total_is_3_even_at_the_image_end() {
+    let mut image = image_of(&[]);
+    put_efs(&mut image, EFS, (L - 16) as u32, 0);
+    put_directory(&mut image, L - 16, b"$PSP", &[]);
+    assert_eq!(directory(&image, 1).map(|d| d.total), Ok(0));
+    for (n, expected) in [(1u32, 1), (512, 1), (513, 3)] {
+        put(&mut image, L - 8, &n.to_le_bytes());
+        assert_eq!(number(directory(&image, 1)), expected);
+    }
+}
+
+#[test]
+fn all_entries_are_present_to_the_last_byte() {
+    let o = L - 16 - 5 * 16;
+    let mut image = image_of(&[]);
+    put_efs(&mut image, EFS, o as u32, 0);
+    put_directory(&mut image, o, b"$PSP", &[raw(1, 0, 0, 0, 1); 5]);
+    assert_eq!(directory(&image, 1).map(|d| d.total), Ok(5));
+    image.pop();
+    assert_eq!(number(directory(&image, 1)), 1);
+}
+
+#[test]
+fn reserved_bits_of_header_and_entries_are_5() {
+    let good = image_of(&[raw(1, 0, 0, 0, 1), raw(2, 0, 0, 0, 1)]);
+    for at in [12, 13, 14, 15, 18, 19, 34, 35] {
+        for bit in [0x01, 0x80] {
+            let mut image = good.clone();
+            image[ONE + at] = bit;
+            seal(&mut image, ONE);
+            assert_eq!(number(directory(&image, 1)), 5);
+        }
+    }
+}
+
+#[test]
+fn a_0x40_is_misplaced_in_level_two_alone() {
+    let image = image_of_two(&[raw(7, 0, 0, 0, 0), raw(0x40, 9, 0, 0, 3)]);
+    assert_eq!(directory(&image, 1).map(|d| d.total), Ok(3));
+    assert_eq!(number(directory(&image, 2)), 14);
+    assert_eq!(number(find_image(&image, 7, 0)), 14);
+}
+
+// Opening level two
+
+#[test]
+fn level_two_is_where_the_lowest_0x40_leads() {
+    let image = image_of_two(&[raw(5, 0, 0, 0, 0)]);
+    let two = directory(&image, 2).unwrap();
+    assert_eq!((two.place, two.total), (TWO as u64, 1));
+    let none = image_of(&[raw(1, 0, 0, 0, 1)]);
+    assert_eq!(number(directory(&none, 2)), 8);
+    assert_eq!(number(View::of(&none, 2)), 8);
+}
+
+#[test]
+fn only_the_lowest_0x40_counts_even_if_it_alone_is_bad() {
+    let mut image = image_of(&[
+        raw(0x40, 5, 0, L as u64 + 1, 1),
+        raw(0x40, 0, 0, TWO as u64, 1),
+    ]);
+    put_directory(&mut image, TWO, b"$PL2", &[]);
+    assert_eq!(number(directory(&image, 2)), 7);
+    put(&mut image, ONE + 16, &raw(0x40, 5, 0, TWO as u64, 1));
+    put(&mut image, ONE + 32, &raw(0x40, 0, 0, L as u64 + 1, 3));
+    seal(&mut image, ONE);
+    assert!(directory(&image, 2).is_ok());
+}
+
+#[test]
+fn level_one_is_checked_whole_before_it_leads() {
+    let mut image = image_of_two(&[]);
+    image[ONE + 16 + 32 + 2] = 1;
+    seal(&mut image, ONE);
+    assert_eq!(number(directory(&image, 2)), 5);
+}
+
+#[test]
+fn a_0x40_leads_by_its_mode_and_its_size_is_not_used() {
+    let (one, two) = (ONE as u64, TWO as u64);
+    let physical = 0xFF00_0000;
+    let end = L as u64;
+    for (location, mode, expected) in [
+        (two, 1, Ok(two)),
+        (two + physical, 0, Ok(two)),
+        (two - one, 2, Ok(two)),
+        (two, 3, Err(16)),
+        (end + 1, 3, Err(16)),
+        (two, 0, Err(7)),
+        (two + 0x1_0000_0000, 0, Err(7)),
+        (end, 1, Err(1)),
+        (end + 1, 1, Err(7)),
+        (physical + end, 0, Err(1)),
+        (physical + end + 1, 0, Err(7)),
+        (end - one, 2, Err(1)),
+        (end - one + 1, 2, Err(7)),
+        ((1 << 62) - 1, 0, Err(7)),
+        ((1 << 62) - 1, 1, Err(7)),
+        ((1 << 62) - 1, 2, Err(7)),
+        (one, 1, Err(2)),
+    ] {
+        let mut image = image_of(&[raw(0x40, 0, u32::MAX, location, mode)]);
+        put_directory(&mut image, TWO, b"$PL2", &[]);
+        let place = directory(&image, 2).map(|d| d.place);
+        assert_eq!(place.map_err(|r| r.number), expected, "{:#x}", location);
+        let found = find_image(&image, 1, 1).map_err(|r| r.number);
+        assert_eq!(found, Err(expected.err().unwrap_or(8)));
+    }
+}
+
+// Entries and their bytes
+
+#[test]
+fn an_entry_has_its_fields() {
+    let image = image_of(&[
+        raw(0x0B, 0xFE, 0x8765_4321, (1 << 62) - 1, 3),
+        raw(1, 2, 3, 4, 2),
+    ]);
+    assert_eq!(
+        entry(&image, 1, 0),
+        Ok(Entry {
+            kind: 0x0B,
+            subprogram: 0xFE,
+            size: 0x8765_4321,
+            location: 0x3FFF_FFFF_FFFF_FFFF,
+            mode: 3
+        })
+    );
+    assert_eq!(entry(&image, 1, 1).map(|e| e.mode), Ok(2));
+    assert_eq!(entry(&image, 1, 1).map(|e| e.location), Ok(4));
+}
+
+#[test]
+fn entry_12_of_12_is_8_whatever_follows() {
+    let mut image = image_of(&[raw(1, 0, 0, 0, 1); 13]);
+    put(&mut image, ONE + 8, &12u32.to_le_bytes());
+    seal(&mut image, ONE);
+    assert!(entry(&image, 1, 11).is_ok());
+    for index in [12, 13, 1 << 32, 1 << 60, u64::MAX] {
+        assert_eq!(number(entry(&image, 1, index)), 8);
+        assert_eq!(number(bytes(&image, 1, index)), 8);
+        let view = View {
+            image: &image,
+            place: ONE as u64,
+        };
+        assert_eq!(number(view.entry(index)), 8);
+        assert_eq!(number(view.bytes(index)), 8);
+    }
+}
+
+#[test]
+fn bytes_are_refused_by_8_then_17_then_16_then_7() {
+    let image = image_of(&[
+        raw(0x0B, 0, u32::MAX, (1 << 62) - 1, 3),
+        raw(0x0C, 0, u32::MAX, (1 << 62) - 1, 3),
+        raw(0x0C, 0, u32::MAX, (1 << 62) - 1, 2),
+    ]);
+    let numbers = [3, 0, 1, 2].map(|index| number(bytes(&image, 1, index)));
+    assert_eq!(numbers, [8, 17, 16, 7]);
+    assert!(entry(&image, 1, 0).is_ok());
+}
+
+#[test]
+fn bytes_lie_where_location_and_mode_say() {
+    let (one, end) = (ONE as u64, L as u64);
+    let physical = 0xFF00_0000;
+    for (size, location, mode, expected) in [
+        (0x100, 0x1000, 1, Ok(0x1000)),
+        (0x100, physical + 0x1000, 0, Ok(0x1000)),
+        (0x100, 0x1000, 2, Ok(one + 0x1000)),
+        (L as u32, 0, 1, Ok(0)),
+        (L as u32 + 1, 0, 1, Err(7)),
+        // the image's last byte, and one more
+        (0x100, end - 0x100, 1, Ok(end - 0x100)),
+        (0x101, end - 0x100, 1, Err(7)),
+        (0x100, physical + end - 0x100, 0, Ok(end - 0x100)),
+        (0x101, physical + end - 0x100, 0, Err(7)),
+        (0x100, end - one - 0x100, 2, Ok(end - 0x100)),
+        (0x101, end - one - 0x100, 2, Err(7)),
+        // no bytes at the image's end, and one behind it
+        (0, end, 1, Ok(end)),
+        (0, end + 1, 1, Err(7)),
+        (0, physical + end, 0, Ok(end)),
+        (0, end - one, 2, Ok(end)),
+        (0, end - one + 1, 2, Err(7)),
+        // outside the window
+        (0, 0x1000, 0, Err(7)),
+        (0, physical - 1, 0, Err(7)),
+        (0, physical + 0x100_0000, 0, Err(7)),
+        (u32::MAX, (1 << 62) - 1, 1, Err(7)),
+        (u32::MAX, (1 << 62) - 1, 2, Err(7)),
+    ] {
+        let image = image_of(&[raw(1, 0, size, location, mode)]);
+        let length = u64::from(size);
+        let expected = expected.map(|place| Part { place, length });
+        let part = bytes(&image, 1, 0).map_err(|r| r.number);
+        assert_eq!(part, expected, "{:#x} {:#x} {}", size, location, mode);
+    }
+}
+
+#[test]
+fn mode_2_counts_from_the_directory_that_has_the_entry() {
+    let image = image_of_two(&[raw(1, 0, 4, 8, 2)]);
+    let place = TWO as u64 + 8;
+    assert_eq!(bytes(&image, 2, 0), Ok(Part { place, length: 4 }));
+}
+
+// Lookup in one directory
+
+#[test]
+fn a_lookup_gives_the_lowest_match_and_how_many_were_tested() {
+    let image = image_of(&[
+        raw(1, 0, 0, 0, 1),
+        raw(2, 1, 0, 0, 1),
+        raw(2, 0, 0, 0, 1),
+        raw(2, 0, 0, 0, 1),
+    ]);
+    let found = |index| {
+        Ok(Found {
+            index,
+            tested: index + 1,
+        })
+    };
+    assert_eq!(find(&image, 1, 1, 0), found(0));
+    assert_eq!(find(&image, 1, 2, 1), found(1));
+    assert_eq!(find(&image, 1, 2, 0), found(2));
+    assert_eq!(find(&image, 1, 1, 1), Err(Refusal::not_found(4)));
+    assert_eq!(find(&image, 1, 0, 2), Err(Refusal::not_found(4)));
+}
+
+#[test]
+fn a_lookup_in_an_absent_directory_carries_0() {
+    let mut image = image_of(&[raw(1, 0, 0, 0, 1)]);
+    assert_eq!(find(&image, 2, 1, 0), Err(Refusal::not_found(0)));
+    put_directory(&mut image, ONE, b"$PSP", &[]);
+    assert_eq!(find(&image, 1, 1, 0), Err(Refusal::not_found(0)));
+    put_efs(&mut image, EFS, 0, u32::MAX);
+    for level in [1, 2] {
+        assert_eq!(find(&image, level, 1, 0), Err(Refusal::not_found(0)));
+        assert_eq!(number(directory(&image, level)), 8);
+        assert_eq!(number(entry(&image, level, 0)), 8);
+    }
+    assert_eq!(find_image(&image, 1, 0), Err(Refusal::not_found(0)));
+}
+
+#[test]
+fn a_fault_behind_the_match_refuses_the_lookup() {
+    let mut image = image_of(&[raw(1, 0, 0, 0, 1), raw(2, 0, 0, 0, 1)]);
+    assert!(find(&image, 1, 1, 0).is_ok());
+    image[ONE + 34] = 1;
+    seal(&mut image, ONE);
+    assert_eq!(number(find(&image, 1, 1, 0)), 5);
+    assert_eq!(number(find_image(&image, 1, 0)), 5);
+}
+
+#[test]
+fn a_lookup_in_level_one_enters_nothing() {
+    let image = image_of(&[raw(0x40, 0, 0, u64::MAX >> 2, 3), raw(1, 0, 0, 0, 1)]);
+    assert_eq!(find(&image, 1, 1, 0).map(|f| f.tested), Ok(2));
+}
+
+// Lookup in the whole image
+
+#[test]
+fn level_two_is_walked_before_the_next_entry() {
+    let image = image_of_two(&[raw(9, 0, 0, 0, 1), raw(2, 0, 0, 0, 1)]);
+    let found = |place: usize, level, index, tested| {
+        Ok(FoundInImage {
+            place: place as u64,
+            level,
+            index,
+            tested,
+        })
+    };
+    assert_eq!(find_image(&image, 1, 0), found(ONE, Level::One, 0, 1));
+    assert_eq!(find_image(&image, 0x40, 0), found(ONE, Level::One, 1, 2));
+    assert_eq!(find_image(&image, 9, 0), found(TWO, Level::Two, 0, 3));
+    assert_eq!(find_image(&image, 2, 0), found(TWO, Level::Two, 1, 4));
+    assert_eq!(find_image(&image, 2, 1), Err(Refusal::not_found(5)));
+}
+
+#[test]
+fn a_match_behind_level_two_counts_its_entries() {
+    let image = image_of_two(&[raw(9, 0, 0, 0, 1); 7]);
+    assert_eq!(
+        find_image(&image, 2, 0),
+        Ok(FoundInImage {
+            place: ONE as u64,
+            level: Level::One,
+            index: 2,
+            tested: 10
+        })
+    );
+}
+
+#[test]
+fn a_0x40_that_does_not_match_in_its_subprogram_is_entered() {
+    let mut image = image_of_two(&[]);
+    image[ONE + 32 + 1] = 3;
+    put(&mut image, ONE + 16 + 32, &raw(0x40, 4, 0, L as u64 + 1, 1));
+    seal(&mut image, ONE);
+    // the second is found before it is entered
+    assert_eq!(find_image(&image, 0x40, 4).map(|f| f.tested), Ok(3));
+    image[TWO] = 0;
+    assert_eq!(number(find_image(&image, 0x40, 4)), 2);
+    assert_eq!(find_image(&image, 0x40, 3).map(|f| f.tested), Ok(2));
+}
+
+#[test]
+fn every_0x40_is_entered_and_counted_each_time() {
+    let leading = raw(0x40, 0, 0, TWO as u64, 1);
+    let mut image = image_of(&[leading, leading, raw(1, 0, 0, 0, 1), leading]);
+    put_directory(&mut image, TWO, b"$PL2", &[raw(9, 0, 0, 0, 1); 5]);
+    assert_eq!(find_image(&image, 1, 0).map(|f| f.tested), Ok(13));
+    assert_eq!(find_image(&image, 8, 0), Err(Refusal::not_found(19)));
+}
+
+#[test]
+fn the_first_fault_before_a_match_is_the_answer() {
+    let mut image = image_of_two(&[raw(9, 0, 0, 0, 1), raw(8, 0, 0, 0, 1)]);
+    // a fault in level two, behind a match in it
+    image[TWO + 34] = 1;
+    seal(&mut image, TWO);
+    assert_eq!(find_image(&image, 1, 0).map(|f| f.index), Ok(0));
+    assert_eq!(number(find_image(&image, 9, 0)), 5);
+    assert_eq!(number(find_image(&image, 2, 0)), 5);
+    // two faults on the way
+    image[ONE + 16 + 32..ONE + 16 + 48].copy_from_slice(&raw(0x40, 0, 0, 0, 3));
+    seal(&mut image, ONE);
+    assert_eq!(number(find_image(&image, 3, 0)), 5);
+    image[TWO + 34] = 0;
+    seal(&mut image, TWO);
+    assert_eq!(number(find_image(&image, 3, 0)), 16);
+    assert_eq!(find_image(&image, 8, 0).map(|f| f.tested), Ok(4));
+}
+
+#[test]
+fn five_hundred_and_twelve_times_five_hundred_and_twelve() {
+    let mut image = vec![0; 0x4_0000];
+    put_efs(&mut image, EFS, 0x3_0000, 0);
+    let leading = raw(0x40, 0, 0, 0x100, 1);
+    put_directory(&mut image, 0x3_0000, b"$PSP", &[leading; 512]);
+    put_directory(&mut image, 0x100, b"$PL2", &[raw(1, 0, 0, 0, 1); 512]);
+    let all = 512 + 512 * 512;
+    assert_eq!(find_image(&image, 2, 0), Err(Refusal::not_found(all)));
+}
+
+// Views
+
+#[test]
+fn a_view_keeps_the_place_and_gives_entries_and_bytes() {
+    let image = image_of_two(&[raw(0x0B, 1, 0, 77, 3), raw(5, 6, 4, 16, 2)]);
+    let view = View::of(&image, 2).unwrap();
+    assert_eq!(view.place, TWO as u64);
+    assert_eq!(view.entry(0), entry(&image, 2, 0));
+    assert_eq!(view.entry(0).map(|e| e.location), Ok(77));
+    assert_eq!(number(view.bytes(0)), 17);
+    let place = TWO as u64 + 16;
+    assert_eq!(view.bytes(1), Ok(Part { place, length: 4 }));
+    assert_eq!(number(view.entry(2)), 8);
+    assert_eq!(View::of(&image, 1).map(|v| v.place), Ok(ONE as u64));
+}
+
+#[test]
+fn a_view_is_checked_again_without_the_efs() {
+    let mut image = image_of_two(&[raw(5, 6, 4, 16, 2)]);
+    image[EFS] = 0;
+    image[ONE] = 0;
+    let at = |place: usize, image: &[u8]| {
+        let place = place as u64;
+        View { image, place }.entry(0).map(|e| e.kind)
+    };
+    assert_eq!(at(TWO, &image), Ok(5));
+    assert_eq!(number(at(ONE, &image)), 2);
+    image[TWO + 16] = 6;
+    assert_eq!(number(at(TWO, &image)), 4);
+    image[TWO + 16] = 0x40;
+    seal(&mut image, TWO);
+    assert_eq!(number(at(TWO, &image)), 14);
+    put(&mut image, TWO, b"$PSP");
+    assert_eq!(at(TWO, &image), Ok(0x40));
+}
+
+#[test]
+fn a_view_is_refused_by_15_then_7_then_1_then_2() {
+    let call = |image: &[u8], place| {
+        let view = View { image, place };
+        let numbers = (number(view.entry(0)), number(view.bytes(0)));
+        assert_eq!(numbers.0, numbers.1);
+        numbers.0
+    };
+    assert_eq!(call(&[], 0), 15);
+    assert_eq!(call(&[], u64::MAX), 15);
+    assert_eq!(call(&vec![0; LONGEST_IMAGE + 1], u64::MAX), 15);
+    assert_eq!(call(&[0; 40], 41), 7);
+    for back in 0..=20 {
+        assert_eq!(call(&[0; 40], u64::MAX - back), 7);
+    }
+    assert_eq!(call(&[0; 40], 40), 1);
+    assert_eq!(call(&[0; 40], 25), 1);
+    assert_eq!(call(&[0; 40], 24), 2);
+    let refused = View::none();
+    assert_eq!((refused.image.len(), refused.place), (0, 0));
+    assert_eq!(number(refused.entry(0)), 15);
+}
+
+#[test]
+fn a_view_may_lie_in_the_longest_image() {
+    let mut image = vec![0; LONGEST_IMAGE];
+    let o = LONGEST_IMAGE - 32;
+    put_directory(&mut image, o, b"$PL2", &[raw(1, 0, 16, 16, 2)]);
+    let place = o as u64;
+    let view = View {
+        image: &image,
+        place,
+    };
+    let expected = Part {
+        place: place + 16,
+        length: 16,
+    };
+    assert_eq!(view.bytes(0), Ok(expected));
+}
+
+// Writing
+
+#[test]
+fn a_start_writes_an_empty_directory_and_nothing_else() {
+    for (level, cookie) in [(1, b"$PSP"), (2, b"$PL2")] {
+        let mut buffer = [0xA5; 20];
+        assert_eq!(start(&mut buffer, level), Ok(()));
+        assert_eq!(buffer[0..4], *cookie);
+        assert_eq!(buffer[4..8], [0xFF; 4]);
+        assert_eq!(buffer[8..16], [0; 8]);
+        assert_eq!(buffer[16..], [0xA5; 4]);
+        assert!(checked_directory(&buffer, 0, Level::numbered(level).unwrap()).is_ok());
+    }
+}
+
+#[test]
+fn a_start_is_refused_by_9_then_12_and_then_changes_nothing() {
+    let mut buffer = [0xA5; 15];
+    assert_eq!(number(start(&mut buffer, 0)), 9);
+    assert_eq!(number(start(&mut buffer, 3)), 9);
+    assert_eq!(number(start(&mut buffer, 1)), 12);
+    assert_eq!(number(start(&mut [], 2)), 12);
+    assert_eq!(buffer, [0xA5; 15]);
+    assert_eq!(start(&mut [0xA5; 16], 1), Ok(()));
+}
+
+#[test]
+fn m2_extends_an_empty_directory() {
+    let mut buffer = [0xA5; 40];
+    start(&mut buffer, 1).unwrap();
+    let mut entry = entry_of(1, 0x1000, 1);
+    entry.size = 0x100;
+    assert_eq!(extend(&mut buffer, &entry), Ok(1));
+    assert_eq!(u32_at(&buffer, 4), 0x8614_5102);
+    assert_eq!(buffer[16..32], raw(1, 0, 0x100, 0x1000, 1));
+    assert_eq!(buffer[32..], [0xA5; 8]);
+}
+
+#[test]
+fn an_extended_directory_has_one_entry_more_and_is_good() {
+    for level in [1, 2] {
+        let mut buffer = vec![0xA5; 16 + 16 * 512 + 3];
+        start(&mut buffer, level).unwrap();
+        for n in 0..512u32 {
+            let before = buffer.clone();
+            let entry = Entry {
+                kind: (n % 0x40) as u8,
+                subprogram: (n / 3) as u8,
+                size: n.wrapping_mul(0x9E37_79B9),
+                location: u64::from(n) << 53,
+                mode: n % 4,
+            };
+            assert_eq!(extend(&mut buffer, &entry), Ok(n + 1));
+            let end = 16 + 16 * n as usize;
+            assert_eq!(buffer[..4], before[..4]);
+            assert_eq!(buffer[12..end], before[12..end]);
+            assert_eq!(buffer[end + 16..], before[end + 16..]);
+            let directory = checked_directory(&buffer, 0, Level::numbered(level).unwrap()).unwrap();
+            assert_eq!(directory.total, n + 1);
+            assert_eq!(directory.entry(u64::from(n)), Ok(entry));
+        }
+        // 3 comes before 12, and room would be there too
+        assert_eq!(number(extend(&mut buffer, &entry_of(1, 0, 0))), 3);
+        buffer.resize(16 + 16 * 513, 0);
+        assert_eq!(number(extend(&mut buffer, &entry_of(1, 0, 0))), 3);
+    }
+}
+
+#[test]
+fn extending_is_refused_in_its_order_and_then_changes_nothing() {
+    let mut buffer = vec![0; 16 + 16 * 512];
+    put_directory(&mut buffer, 0, b"$PL2", &[raw(1, 0, 0, 0, 1); 512]);
+    let refused = |buffer: &[u8], entry: &Entry| {
+        let mut copy = buffer.to_vec();
+        let number = number(extend(&mut copy, entry));
+        assert_eq!(copy, buffer);
+        number
+    };
+    let mut broken = buffer.clone();
+    broken[8 + 16 * 512] ^= 1;
+    let too_far = 1 << 62;
+    assert_eq!(refused(&broken, &entry_of(0x40, too_far, 4)), 4);
+    assert_eq!(refused(&buffer, &entry_of(0x40, too_far, 0)), 5);
+    assert_eq!(refused(&buffer, &entry_of(0x40, 0, 4)), 5);
+    assert_eq!(refused(&buffer, &entry_of(0x40, u64::MAX, u32::MAX)), 5);
+    assert_eq!(refused(&buffer, &entry_of(0x40, too_far - 1, 3)), 14);
+    assert_eq!(refused(&buffer, &entry_of(0x41, too_far - 1, 3)), 3);
+    put_directory(&mut buffer, 0, b"$PL2", &[raw(1, 0, 0, 0, 1); 511]);
+    assert_eq!(
+        refused(&buffer[..16 + 16 * 512 - 1], &entry_of(1, 0, 0)),
+        12
+    );
+    assert_eq!(refused(&buffer[..16 + 16 * 511], &entry_of(0x40, 0, 0)), 14);
+    assert_eq!(extend(&mut buffer, &entry_of(1, too_far - 1, 3)), Ok(512));
+    assert_eq!(u64_at(&buffer, 16 + 16 * 511 + 8), u64::MAX);
+}
+
+#[test]
+fn extending_checks_the_directory_with_the_level_by_its_cookie() {
+    let good = entry_of(1, 0, 0);
+    assert_eq!(number(extend(&mut [], &good)), 1);
+    assert_eq!(number(extend(&mut b"$PSP...........".to_vec(), &good)), 1);
+    assert_eq!(number(extend(&mut b"$PS_............".to_vec(), &good)), 2);
+    let mut buffer = vec![0; 64];
+    put_directory(&mut buffer, 0, b"$PL2", &[raw(0x40, 0, 0, 0, 1)]);
+    // a 14 inside the directory comes before the 5 of what is asked for
+    assert_eq!(number(extend(&mut buffer, &entry_of(1, u64::MAX, 9))), 14);
+    put(&mut buffer, 0, b"$PSP");
+    assert_eq!(extend(&mut buffer, &entry_of(0x40, 0, 0)), Ok(2));
+    buffer[12] = 1;
+    seal(&mut buffer, 0);
+    assert_eq!(number(extend(&mut buffer, &good)), 5);
+}
+
+#[test]
+fn extending_writes_over_what_stands_behind_and_knows_no_15() {
+    let mut buffer = vec![0xEE; LONGEST_IMAGE + 1];
+    start(&mut buffer, 2).unwrap();
+    assert_eq!(extend(&mut buffer, &entry_of(0, 0, 0)), Ok(1));
+    assert_eq!(buffer[16..32], [0; 16]);
+    assert_eq!(buffer[32..64], [0xEE; 32]);
+}

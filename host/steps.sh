@@ -1,0 +1,142 @@
+# The steps of ./test: each says what it does and how long it took, and each is counted.
+# shellcheck shell=bash disable=SC2154
+# It is sourced after setup.sh, by a script that has set `root` to the folder of the repository to be tested.
+
+passed=0 failed=0 failed_steps=''
+# Not under target/, which `rt ci` removes.
+logs=$root/host/target/log
+
+# Runs a command as a step. COUNTER sets `step_passed` and `step_failed` from the command's status and log.
+step() { # LABEL COUNTER COMMAND...
+    local label=$1 counter=$2 began=$SECONDS status log
+    shift 2
+    log=$logs/${label// /-}.log
+    mkdir -p "$logs"
+    printf '== %s\n' "$label"
+    "$@" </dev/null 2>&1 | tee "$log"
+    status=${PIPESTATUS[0]}
+    "$counter" "$status" "$log"
+    passed=$((passed + step_passed)) failed=$((failed + step_failed))
+    [ "$step_failed" -eq 0 ] || failed_steps="$failed_steps, $label"
+    printf '== %s: %d passed, %d failed (%d s)\n\n' "$label" "$step_passed" "$step_failed" $((SECONDS - began))
+}
+
+# Prints the verdict, whose last line is 'N passed, M failed'. Its status is 0 only where nothing failed.
+verdict() {
+    [ -z "$failed_steps" ] || printf 'Failed:%s. What each step printed is in %s.\n' "${failed_steps#,}" "$logs"
+    printf '%d passed, %d failed\n' "$passed" "$failed"
+    [ "$failed" -eq 0 ]
+}
+
+# ---- how a step is counted
+
+# A step with no tests in it: it counts as one.
+count_one() { # STATUS LOG
+    step_passed=$(($1 == 0)) step_failed=$(($1 != 0))
+}
+
+# A build: one, and a warning fails it.
+count_build() { # STATUS LOG
+    count_one "$1" "$2"
+    if grep -q '^warning' "$2"; then step_passed=0 step_failed=1; fi
+}
+
+# A command whose last line is 'N passed, M failed'.
+count_last_line() { # STATUS LOG
+    step_passed=0 step_failed=0
+    if [[ $(tail -n 1 "$2") =~ ^([0-9]+)\ passed,\ ([0-9]+)\ failed$ ]]; then
+        step_passed=${BASH_REMATCH[1]} step_failed=${BASH_REMATCH[2]}
+    fi
+    count_silence "$1"
+}
+
+# Cargo's tests. One that is ignored, and a program of tests that did not come to its end, have failed.
+count_cargo() { # STATUS LOG
+    read -r step_passed step_failed < <(awk '
+        /^ +(Running|Doc-tests) / { begun++ }
+        /^test result: / { ended++; passed += $4; failed += $6 + $8 }
+        END { print passed + 0, failed + (begun > ended ? begun - ended : 0) }' "$2")
+    count_silence "$1"
+}
+
+# A step that fails and names no failed test, or that ran no test at all, is one failure.
+count_silence() { # STATUS
+    if [ "$step_failed" -eq 0 ] && { [ "$1" -ne 0 ] || [ "$step_passed" -eq 0 ]; }; then step_failed=1; fi
+}
+
+# ---- what the steps do
+
+# Installs what is missing, and notes what the run is made with.
+prepare_machine() {
+    install_missing tests || return
+    printf '%s, %s processors; %s; %s; %s\n' "$machine" "$(nproc)" "$("$rustc" --version)" "$("$cargo" --version)" "$("$c_compiler" --version | head -n 1)"
+    [ -z "$emulator" ] || "$emulator" --version | head -n 1
+    ! command -v rt >/dev/null || rt version
+}
+
+prove_everything() {
+    require_rt || return
+    choose_proof_jobs
+    cd "$root" && rt ci
+}
+
+check_rattle_layout() {
+    require_rt || return
+    cd "$root" && rt fmt --check && echo "every file of crates/ is laid out as rt fmt does it"
+}
+
+check_rust_layout() {
+    choose_compilers
+    cd "$root/host" && find . -name target -prune -o -name '*.rs' -print0 | xargs -0 "$rustfmt" --edition 2021 --check \
+        && echo "every file of host/ is laid out as rustfmt does it"
+}
+
+# Cargo with every warning an error. The lock file is held to be the one that was committed.
+run_strict_cargo() { # VERB WORDS...
+    choose_compilers
+    export CARGO_TARGET_X86_64_UNKNOWN_LINUX_GNU_RUSTFLAGS="$rust_flags -D warnings" CARGO_TERM_COLOR=never
+    run_cargo "$@" --locked --workspace
+}
+
+# The steps that any repository of this form has.
+common_steps() {
+    step 'what the machine must have' count_one prepare_machine
+    step 'layout of the Rattle files' count_one check_rattle_layout
+    step 'layout of the Rust files' count_one check_rust_layout
+    step 'proofs' count_last_line prove_everything
+    step 'library' count_one make_library
+    step 'host build' count_build run_strict_cargo build
+    step 'host tests' count_cargo run_strict_cargo test --no-fail-fast
+}
+
+# A caller in C: the header is complete, compiles without a warning, and says what the archive does.
+check_c() {
+    local archive=$root/target/staticlib/libkpalumere.a program=$root/host/target/c-check
+    choose_compilers
+    cd "$root/host" && check_exported_names "$archive" || return
+    # shellcheck disable=SC2086
+    "$c_compiler" -std=c99 -Wall -Wextra -Werror -pedantic $c_flags -o "$program" c-check/main.c "$archive" || return
+    # shellcheck disable=SC2086
+    $emulator "$program"
+}
+
+# The archive, the header and the bindings have the same calls.
+check_exported_names() { # ARCHIVE
+    local exported declared bound
+    exported=$("$list_symbols" --defined-only --extern-only "$1" | awk '$3 ~ /^kpalumere_/ { print $3 }' | sort -u)
+    declared=$(grep -oE '\bkpalumere_[a-z0-9_]+\(' kpalumere.h | tr -d '(' | sort -u)
+    bound=$(grep -rhoE '\bfn kpalumere_[a-z0-9_]+\(' bindings/src | sed 's/^fn //' | tr -d '(' | sort -u)
+    if [ -z "$exported" ]; then echo "the archive $1 exports no call"; return 1; fi
+    if [ "$exported" != "$declared" ] || [ "$exported" != "$bound" ]; then
+        printf 'the calls differ\n-- of the archive:\n%s\n-- of host/kpalumere.h:\n%s\n-- of host/bindings:\n%s\n' "$exported" "$declared" "$bound"
+        return 1
+    fi
+    printf 'the archive, the header and the bindings have the same calls: %s\n' "$(echo "$exported" | tr '\n' ' ')"
+}
+
+# Random calls, given to the tool and the second program. The seed is printed.
+check_agreement() {
+    choose_compilers
+    # shellcheck disable=SC2086
+    $emulator "$root/host/target/$rust_target/release/agree" --calls "${KPALUMERE_CALLS:-10000}"
+}

@@ -1,0 +1,190 @@
+//! `kpalumere ask`: one line is one call, one line is its answer. docs/ASK.md has the language.
+//!
+//! A subject is one module with a table of its calls. To add one, write the module, add its table to [`TABLES`] and what
+//! it keeps between calls to [`State`].
+
+mod buffers;
+mod call;
+mod lines;
+
+use crate::ending::Ending;
+use buffers::Buffers;
+use call::{BadLine, Call};
+use std::ffi::{OsStr, OsString};
+use std::fs::File;
+use std::io::{self, BufRead, BufReader, Write};
+
+/// The calls of each subject, in the order in which the help shows them.
+static TABLES: [&[Call]; 1] = [&buffers::CALLS];
+
+/// What the program keeps from one call to the next.
+#[derive(Default)]
+pub struct State {
+    buffers: Buffers,
+}
+
+/// Why a conversation stopped before its last line.
+enum Stopped {
+    Reading(io::Error),
+    Writing(io::Error),
+}
+
+/// Answers the calls of a file, or of standard input where none is named.
+pub fn run(file: Option<OsString>) -> Ending {
+    let mut answers = io::stdout().lock();
+    let ended = match &file {
+        None => converse(&mut io::stdin().lock(), &mut answers),
+        Some(name) => match File::open(name) {
+            Ok(open) => converse(&mut BufReader::new(open), &mut answers),
+            Err(error) => Err(Stopped::Reading(error)),
+        },
+    };
+    match ended {
+        Ok(ending) => ending,
+        Err(Stopped::Writing(error)) => Ending::of_unwritten(&error),
+        Err(Stopped::Reading(error)) => {
+            eprintln!("{}", unread(file.as_deref(), &error));
+            Ending::NotReadOrWritten
+        }
+    }
+}
+
+/// The message for calls that cannot be read.
+fn unread(file: Option<&OsStr>, error: &io::Error) -> String {
+    match file {
+        Some(name) => format!(
+            "kpalumere: {name:?} cannot be read: {error}. Name a file of calls that can be read, \
+             or none to read standard input."
+        ),
+        None => format!(
+            "kpalumere: standard input cannot be read: {error}. Name a file of calls instead: \
+             kpalumere ask FILE"
+        ),
+    }
+}
+
+/// Reads calls and writes each answer before the next line is read, so that a program can ask over a pipe.
+fn converse(calls: &mut dyn BufRead, answers: &mut dyn Write) -> Result<Ending, Stopped> {
+    let mut state = State::default();
+    let mut ending = Ending::Done;
+    let mut line = Vec::new();
+    for line_number in 1u64.. {
+        line.clear();
+        let read = calls.read_until(b'\n', &mut line);
+        if read.map_err(Stopped::Reading)? == 0 {
+            break;
+        }
+        let words = lines::words_of(&line);
+        let mut answer = match words.split_first() {
+            None => continue,
+            Some((name, words)) => answer_to(&mut state, name, words).unwrap_or_else(|bad| {
+                ending = Ending::BadLine;
+                format!("bad line: line {line_number}: {}", bad.reason)
+            }),
+        };
+        answer.push('\n');
+        answers
+            .write_all(answer.as_bytes())
+            .and_then(|()| answers.flush())
+            .map_err(Stopped::Writing)?;
+    }
+    Ok(ending)
+}
+
+/// The answer to one call, given its name and the words after it.
+fn answer_to(state: &mut State, name: &[u8], words: &[&[u8]]) -> Result<String, BadLine> {
+    let call = TABLES
+        .iter()
+        .flat_map(|table| table.iter())
+        .find(|call| call.name.as_bytes() == name)
+        .ok_or_else(|| {
+            let shown = lines::shown(name);
+            BadLine::new(format!(
+                "{shown} is not a call; `kpalumere ask --help` lists the calls"
+            ))
+        })?;
+    call.expect_words(words.len())?;
+    (call.answer)(state, words)
+}
+
+/// The help of `ask`: how a line is written, and every call.
+pub fn help() -> String {
+    let mut text = String::from(LANGUAGE);
+    for call in TABLES.iter().flat_map(|table| table.iter()) {
+        let form = format!("{} {}", call.name, call.words);
+        text.push_str(&format!("  {:<27}{}\n", form.trim_end(), call.gives));
+    }
+    text
+}
+
+/// How a line is written, for people. docs/ASK.md says the same at length.
+const LANGUAGE: &str = "\
+kpalumere ask [FILE]: one line is one call, one line is its answer.
+
+Calls are read from FILE, or from standard input. Each answer is written before the next line is read. # starts a
+comment; a line with nothing else has no answer. Words are parted by spaces or tabs.
+  NUMBER   decimal digits, or 0x and hexadecimal digits (LENGTH, OFFSET, BYTE)
+  HEX      an even number of hexadecimal digits, or - for no bytes
+  NAME     letters, digits and _; it names a buffer, whose bytes are lent to the calls
+A line that is no call is answered 'bad line: ' with the reason; it changes nothing, and the status is 1 at the end.
+docs/ASK.md has the whole language.
+
+Calls:
+";
+
+#[cfg(test)]
+mod tests {
+    use super::*;
+
+    /// The answers to a script, and how the conversation ended.
+    fn answers_to(script: &[u8]) -> (String, Ending) {
+        let mut answers = Vec::new();
+        let ending = match converse(&mut &script[..], &mut answers) {
+            Ok(ending) => ending,
+            Err(_) => panic!("memory can be read and written"),
+        };
+        (String::from_utf8(answers).unwrap(), ending)
+    }
+
+    #[test]
+    fn a_line_with_nothing_left_has_no_answer() {
+        let script = b"\n# only a comment\n \t \r\n\r\n  # another\n";
+        assert_eq!(answers_to(script), (String::new(), Ending::Done));
+        assert_eq!(answers_to(b""), (String::new(), Ending::Done));
+    }
+
+    #[test]
+    fn a_bad_line_is_told_with_its_number_and_the_rest_is_answered() {
+        let (answers, ending) = answers_to(b"# first\nflash a\nbuffer a 2\nshow a 0 2");
+        let lines: Vec<&str> = answers.lines().collect();
+        assert_eq!(lines.len(), 3);
+        assert!(lines[0].starts_with("bad line: line 2: 'flash' is not a call"));
+        assert_eq!(lines[1..], ["ok length=2", "bytes 0000"]);
+        assert_eq!(ending, Ending::BadLine);
+    }
+
+    #[test]
+    fn a_reason_stays_on_its_line_whatever_the_word_is() {
+        let mut script = vec![b'\r', 0x0b, 0xff, 0, 0x1b];
+        script.extend([b'x'; 1000]);
+        let (answers, _) = answers_to(&script);
+        assert_eq!(answers.matches('\n').count(), 1);
+        assert!(answers.is_ascii() && answers.len() < 200, "{answers}");
+    }
+
+    #[test]
+    fn help_shows_every_call_with_its_words() {
+        let text = help();
+        for call in TABLES.iter().flat_map(|table| table.iter()) {
+            assert!(text.contains(&format!("  {} {}", call.name, call.words)));
+        }
+    }
+
+    #[test]
+    fn an_answer_that_cannot_be_written_stops_the_conversation() {
+        let script = b"buffer a 1\nbuffer b 1\n";
+        let mut no_room: &mut [u8] = &mut [0; 3];
+        let ended = converse(&mut &script[..], &mut no_room);
+        assert!(matches!(ended, Err(Stopped::Writing(_))));
+    }
+}
