@@ -27,12 +27,157 @@
 extern "C" {
 #endif
 
+/* ---- The checksum ---- */
+
 /* The checksum of the lent bytes: Fletcher's 32-bit sum over 16-bit words, as document 01 takes it; a last odd byte has no
  * part in it. A directory holds the checksum of its bytes from 8 on in the four bytes at 4.
  *
  * Answers 0 and words[0] = the checksum; 12 where words_len is 0.
  */
 uint64_t kpalumere_checksum(const uint8_t *bytes, size_t bytes_len, uint64_t *words, size_t words_len);
+
+/* ---- The flash image ----
+ *
+ * `image` is a whole flash image. `level` is 1 or 2, any other is refused with 9. Each of these calls answers 15 for an image
+ * that is empty or has more than 16,777,216 bytes; 2 where it has no EFS; 7 where the EFS's pointer, or the entry that leads
+ * to level two, leads out of it; 8 where there is no pointer or no such entry; 16 where that entry has address mode 3; and for
+ * a directory that is not good 1 (cut off), 2 (cookie), 3 (total), 4 (checksum), 5 (reserved bits) or 14 (type 0x40 in level
+ * two). What a call answers besides stands with it. Places are offsets into the image.
+ */
+
+/* The directory of a level.
+ *
+ * Answers 0 and words[0] = its place, words[1] = its level, words[2] = its total; 12 where words_len is below 3.
+ */
+uint64_t kpalumere_directory(const uint8_t *image, size_t image_len, uint32_t level, uint64_t *words, size_t words_len);
+
+/* An entry of the directory of a level.
+ *
+ * Answers 0 and words[0] = its type, words[1] = its subprogram, words[2] = its size, words[3] = its location or value,
+ * words[4] = its address mode (0 to 3); 8 where `index` is not below the total; 12 where words_len is below 5.
+ */
+uint64_t kpalumere_entry(const uint8_t *image, size_t image_len, uint32_t level, uint64_t index, uint64_t *words,
+                         size_t words_len);
+
+/* Where the bytes of an entry of the directory of a level lie, also where there are none of them.
+ *
+ * Answers 0 and words[0] = their place, words[1] = how many they are; 8 where `index` is not below the total; 17 where the
+ * entry holds a value; 16 where its address mode is 3; 7 where the bytes do not lie in the image; 12 where words_len is
+ * below 2.
+ */
+uint64_t kpalumere_part(const uint8_t *image, size_t image_len, uint32_t level, uint64_t index, uint64_t *words,
+                        size_t words_len);
+
+/* The first entry of a type and subprogram in the directory of a level.
+ *
+ * Answers 0 and words[0] = its index, words[1] = how many entries were tested; 8 and words[0] = how many entries were tested,
+ * which is 0 where there is no such directory; 12 where words_len is below 2, or below 1 with an 8.
+ */
+uint64_t kpalumere_find(const uint8_t *image, size_t image_len, uint32_t level, uint8_t type, uint8_t sub, uint64_t *words,
+                        size_t words_len);
+
+/* The first entry of a type and subprogram in the whole image: level one in order, and after each entry of type 0x40 that does
+ * not match the level two to which it leads. The first fault that is met before a match refuses the lookup.
+ *
+ * Answers 0 and words[0] = the place of the match's directory, words[1] = its level, words[2] = the match's index,
+ * words[3] = how many entries were tested; 8 and words[0] = how many entries were tested; 12 where words_len is below 4, or
+ * below 1 with an 8. It is given no level, so 9 is never answered.
+ */
+uint64_t kpalumere_find_image(const uint8_t *image, size_t image_len, uint8_t type, uint8_t sub, uint64_t *words,
+                              size_t words_len);
+
+/* ---- Views ----
+ *
+ * A view of a checked directory is the image and the place where the directory begins. The directory is checked again at each
+ * call, without the EFS; its level is that of its cookie.
+ */
+
+/* The place that a view of the directory of a level holds.
+ *
+ * Answers 0 and words[0] = the place; 12 where words_len is 0; else what kpalumere_directory answers.
+ */
+uint64_t kpalumere_view(const uint8_t *image, size_t image_len, uint32_t level, uint64_t *words, size_t words_len);
+
+/* An entry, from a view that holds the image and the place.
+ *
+ * Answers 0 and five words as kpalumere_entry; 15 for an image that is empty or has more than 16,777,216 bytes; 7 where the
+ * place lies beyond it; 1, 2, 3, 4, 5 or 14 for a directory that is not good; 8 where `index` is not below its total; 12
+ * where words_len is below 5.
+ */
+uint64_t kpalumere_view_entry(const uint8_t *image, size_t image_len, size_t place, size_t index, uint64_t *words,
+                              size_t words_len);
+
+/* Where the bytes of an entry lie, from a view that holds the image and the place.
+ *
+ * Answers 0 and two words as kpalumere_part; the refusals of kpalumere_view_entry; 17 where the entry holds a value; 16 where
+ * its address mode is 3; 7 where the bytes do not lie in the image; 12 where words_len is below 2.
+ */
+uint64_t kpalumere_view_part(const uint8_t *image, size_t image_len, size_t place, size_t index, uint64_t *words,
+                             size_t words_len);
+
+/* ---- Writing a directory ----
+ *
+ * A directory is written at a buffer's start. A buffer may be of any length. What is refused changes no byte of it.
+ */
+
+/* Writes an empty directory of a level, 16 bytes, and nothing else.
+ *
+ * Answers 0; 9 where the level is not 1 or 2; 12 where buf_len is below 16.
+ */
+uint64_t kpalumere_start(uint8_t *buf, size_t buf_len, uint32_t level);
+
+/* Adds an entry to the good directory at the buffer's start. The entry, the total and the checksum are written, and every other
+ * byte is kept.
+ *
+ * Answers 0 and words[0] = the new total; 1, 2, 3, 4, 5 or 14 for a directory that is not good; then 5 where the location is
+ * not below 2^62 or the mode is above 3; 14 for type 0x40 in level two; 3 where the total is 512 already; 12 where the buffer
+ * has no room for 16 bytes more, or words_len is 0.
+ */
+uint64_t kpalumere_extend(uint8_t *buf, size_t buf_len, uint8_t type, uint8_t sub, uint32_t size, uint64_t location,
+                          uint32_t mode, uint64_t *words, size_t words_len);
+
+/* ---- The GUID table ----
+ *
+ * The table ends 32 bytes before the end of a guest firmware image. A GUID is given as two numbers: its sixteen bytes in
+ * memory are those of `low` and then those of `high`, the lowest first. All is checked at each call: 1 for an image of fewer
+ * than 50 bytes, 2 for the footer, 3 for the total, 6 for an entry.
+ */
+
+/* The table.
+ *
+ * Answers 0 and words[0] = its total in bytes, words[1] = how many entries it has; 1, 2, 3 or 6; 12 where words_len is below 2.
+ */
+uint64_t kpalumere_guids(const uint8_t *image, size_t image_len, uint64_t *words, size_t words_len);
+
+/* The entry nearest the footer that has a GUID.
+ *
+ * Answers 0 and words[0] = the place of its data, words[1] = the length of its data, words[2] = how many entries were tested;
+ * 1, 2, 3 or 6; 8 and words[0] = how many entries were tested; 12 where words_len is below 3, or below 1 with an 8.
+ */
+uint64_t kpalumere_guid_find(const uint8_t *image, size_t image_len, uint64_t low, uint64_t high, uint64_t *words,
+                             size_t words_len);
+
+/* The entry at an index, counted from the footer.
+ *
+ * Answers 0 and words[0] and words[1] = the halves of its GUID, words[2] = the place of its data, words[3] = the length of its
+ * data; 1, 2, 3 or 6; 8 where there are not so many entries; 12 where words_len is below 4.
+ */
+uint64_t kpalumere_guid_entry(const uint8_t *image, size_t image_len, size_t index, uint64_t *words, size_t words_len);
+
+/* Writes a table with no entries: its total and its footer, and nothing else.
+ *
+ * Answers 0; 12 where buf_len is below 50.
+ */
+uint64_t kpalumere_guid_start(uint8_t *buf, size_t buf_len);
+
+/* Adds an entry to a good table, farthest from the footer. The entry and the total are written, and every other byte is kept.
+ *
+ * Answers 0 and words[0] = the new total; 1, 2, 3 or 6 for a table that is not good; then 3 where the new total is above
+ * 65,535; 12 where the image has no room for it; 13 where the bytes to be used are not all zero; 12 where words_len is 0. What
+ * is refused changes no byte.
+ */
+uint64_t kpalumere_guid_extend(uint8_t *buf, size_t buf_len, uint64_t low, uint64_t high, const uint8_t *data, size_t data_len,
+                               uint64_t *words, size_t words_len);
 
 #ifdef __cplusplus
 }

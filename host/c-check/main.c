@@ -3,6 +3,7 @@
 
 #include <inttypes.h>
 #include <stdio.h>
+#include <string.h>
 
 static int failures = 0;
 
@@ -31,9 +32,116 @@ static void check_checksum(void)
     expect("no bytes are accepted", 0, kpalumere_checksum(empty, 0, words, 1));
 }
 
+/* A directory of level one with the entry of value M2: type 1, size 0x100, at 0x1000 in mode 1. */
+static const uint8_t one_entry_directory[32] = {'$', 'P', 'S', 'P', 0x02, 0x51, 0x14, 0x86, 1, 0, 0, 0, 0, 0, 0, 0,
+                                                1,   0,   0,   0,   0,    1,    0,    0,    0, 0x10, 0, 0, 0, 0, 0, 0x40};
+
+/* An image with an EFS whose pointer leads to that directory, at 0x200. */
+static const uint8_t *board(size_t *length)
+{
+    static uint8_t image[0x20024];
+    static const uint8_t signature[4] = {0xAA, 0x55, 0xAA, 0x55};
+
+    memcpy(image + 0x20000, signature, sizeof signature);
+    image[0x20015] = 2;
+    memcpy(image + 0x200, one_entry_directory, sizeof one_entry_directory);
+    *length = sizeof image;
+    return image;
+}
+
+static void check_flash(void)
+{
+    size_t length;
+    const uint8_t *image = board(&length);
+    uint64_t words[6] = {0, 0, 0, 0, 0, 7};
+
+    expect("a directory is found", 0, kpalumere_directory(image, length, 1, words, 3));
+    expect("its place", 0x200, words[0]);
+    expect("its level", 1, words[1]);
+    expect("its total", 1, words[2]);
+    expect("there is no level two", 8, kpalumere_directory(image, length, 2, words, 3));
+    expect("there is no level three", 9, kpalumere_directory(image, length, 3, words, 3));
+    expect("an entry is given", 0, kpalumere_entry(image, length, 1, 0, words, 6));
+    expect("its type", 1, words[0]);
+    expect("its size", 0x100, words[2]);
+    expect("its location", 0x1000, words[3]);
+    expect("its mode", 1, words[4]);
+    expect("the word behind is kept", 7, words[5]);
+    expect("an index is 64 bits wide", 8, kpalumere_entry(image, length, 1, UINT64_C(1) << 32, words, 6));
+    expect("a part is given", 0, kpalumere_part(image, length, 1, 0, words, 2));
+    expect("its place", 0x1000, words[0]);
+    expect("its length", 0x100, words[1]);
+    expect("a lookup finds", 0, kpalumere_find(image, length, 1, 1, 0, words, 2));
+    expect("the first entry", 0, words[0]);
+    expect("after one test", 1, words[1]);
+    expect("a lookup finds nothing", 8, kpalumere_find(image, length, 1, 1, 2, words, 2));
+    expect("after one test", 1, words[0]);
+    expect("the whole image is searched", 0, kpalumere_find_image(image, length, 1, 0, words, 4));
+    expect("the place of the match's directory", 0x200, words[0]);
+    expect("no room is refused", 12, kpalumere_find_image(image, length, 1, 0, words, 3));
+}
+
+static void check_view(void)
+{
+    size_t length;
+    const uint8_t *image = board(&length);
+    uint64_t words[5] = {0};
+
+    expect("a view is given", 0, kpalumere_view(image, length, 1, words, 1));
+    expect("its place", 0x200, words[0]);
+    expect("it gives an entry", 0, kpalumere_view_entry(image, length, 0x200, 0, words, 5));
+    expect("of that location", 0x1000, words[3]);
+    expect("it gives a part", 0, kpalumere_view_part(image, length, 0x200, 0, words, 2));
+    expect("of that length", 0x100, words[1]);
+    expect("a place is 64 bits wide", 7, kpalumere_view_part(image, length, SIZE_MAX, 0, words, 2));
+}
+
+static void check_build(void)
+{
+    uint8_t buffer[40];
+    uint64_t words[1] = {0};
+
+    memset(buffer, 0xEE, sizeof buffer);
+    expect("a directory is started", 0, kpalumere_start(buffer, sizeof buffer, 1));
+    expect("it is extended", 0, kpalumere_extend(buffer, sizeof buffer, 1, 0, 0x100, 0x1000, 1, words, 1));
+    expect("its total", 1, words[0]);
+    expect("its bytes", 0, (uint64_t)(memcmp(buffer, one_entry_directory, 32) != 0));
+    expect("the byte behind is kept", 0xEE, buffer[32]);
+    expect("no room is refused", 12, kpalumere_extend(buffer, sizeof buffer, 1, 0, 0x100, 0x1000, 1, words, 1));
+    expect("mode 4 is refused", 5, kpalumere_extend(buffer, sizeof buffer, 1, 0, 0x100, 0x1000, 4, words, 1));
+}
+
+static void check_guids(void)
+{
+    static const uint8_t data[3] = {1, 2, 3};
+    uint8_t buffer[100] = {0};
+    uint64_t words[4] = {0};
+
+    expect("a table is started", 0, kpalumere_guid_start(buffer, sizeof buffer));
+    expect("value M9", 0, kpalumere_guids(buffer, sizeof buffer, words, 2));
+    expect("its total", 18, words[0]);
+    expect("its entries", 0, words[1]);
+    expect("it is extended", 0, kpalumere_guid_extend(buffer, sizeof buffer, 5, 6, data, sizeof data, words, 1));
+    expect("its total", 39, words[0]);
+    expect("a GUID is found", 0, kpalumere_guid_find(buffer, sizeof buffer, 5, 6, words, 3));
+    expect("its data's place", 29, words[0]);
+    expect("its data's length", 3, words[1]);
+    expect("another is not", 8, kpalumere_guid_find(buffer, sizeof buffer, 6, 5, words, 3));
+    expect("after one test", 1, words[0]);
+    expect("an entry is given", 0, kpalumere_guid_entry(buffer, sizeof buffer, 0, words, 4));
+    expect("the low half of its GUID", 5, words[0]);
+    expect("the high half", 6, words[1]);
+    buffer[50] = 17;
+    expect("value M10", 3, kpalumere_guids(buffer, sizeof buffer, words, 2));
+}
+
 int main(void)
 {
     check_checksum();
+    check_flash();
+    check_view();
+    check_build();
+    check_guids();
     puts(failures == 0 ? "a caller in C sees the values of document 01" : "a caller in C sees other values");
     return failures != 0;
 }

@@ -1,1 +1,3 @@
-pub mod Layout
+pub mod Images
+pub mod GuidTable
+pub mod Writing

@@ -2,8 +2,7 @@
 ghost use mathlib.Core.Path.{_≡_};
 ghost use Rattle.reply.specs.Reply.{given};
 ghost use Rattle.fletcher.specs.Fletcher.{fletcherOf};
-ghost use Rattle.lent.specs.Lent.{numberLeft, wordsLeft};
-ghost use Rattle.kpalumere.specs.Layout.{layNumber};
+ghost use Rattle.lent.specs.Lent.{numberLeft, wordsLeft, layNumber};
 
 // One word: the checksum of the bytes.
 #[no_mangle]

@@ -31,3 +31,11 @@ numberLeft lay reply words = numberFor (numberOf reply) (valuesOf lay reply) wor
 
 abbrev pub wordsLeft : {A : Type 0} → (A → List ℕ) → Reply A → List ℕ → List ℕ
 wordsLeft lay reply words = wordsFor (valuesOf lay reply) words
+
+-- the lent bytes that a call leaves which changes them by its reply: as they were where its values do not fit the lent words
+unfoldable pub bytesLeft : {A : Type 0} → (A → List ℕ) → Reply A → (Reply A → List ℕ) → List ℕ → List ℕ → List ℕ
+bytesLeft lay reply after before words = cond (leb (length (valuesOf lay reply)) (length words)) (after reply) before
+
+-- how a number is laid out: one word
+abbrev pub layNumber : ℕ → List ℕ
+layNumber n = n ∷ []

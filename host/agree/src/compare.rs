@@ -73,18 +73,31 @@ pub fn set_side_by_side(
         (run, other.join().expect("a program can be run"))
     });
     let answers = answers_of(&run.answers);
-    let parted = match run.status {
-        None => Some(format!(
-            "{} did not end by itself{}",
-            first.name,
-            said(&run)
-        )),
-        Some(status) => departure(script, &answers, status, &other).map(|told| {
-            let (first, second) = (&first.name, &second.name);
-            format!("{first} is what is expected and {second} what is found; {told}")
-        }),
-    };
+    let parted = unfit(script, &answers, &run)
+        .map(|told| format!("{} {told}{}", first.name, said(&run)))
+        .or_else(|| {
+            departure(script, &answers, status_after(&answers), &other).map(|told| {
+                let (first, second) = (&first.name, &second.name);
+                format!("{first} is what is expected and {second} what is found; {told}")
+            })
+        });
     (answers, parted)
+}
+
+/// Tells what is wrong with a run whatever the other program did, so that two that fail alike do not count as equal.
+fn unfit(script: &[u8], answers: &[Vec<u8>], run: &Run) -> Option<String> {
+    let calls = calls_of(script).count();
+    if answers.len() != calls {
+        return Some(format!("gave {} answers to {calls} calls", answers.len()));
+    }
+    let expected = status_after(answers);
+    match run.status {
+        None => Some("did not end by itself".into()),
+        Some(status) if status != expected => {
+            Some(format!("ended with {status} where {expected} is due"))
+        }
+        Some(_) => None,
+    }
 }
 
 /// Two answers that differ, from a little before the place where they do.
@@ -113,19 +126,23 @@ fn said(run: &Run) -> String {
     format!("; standard error: {}", shown(&run.said))
 }
 
-/// The line number and the text of the call that the answer at `place` belongs to.
-fn call_of_answer(script: &[u8], place: usize) -> Option<(usize, &[u8])> {
-    let lines = script.split(|&byte| byte == b'\n').enumerate();
-    let mut asking = lines.filter(|(_, line)| {
+/// The calls of a script, each with its line number: the lines that must have an answer.
+fn calls_of(script: &[u8]) -> impl Iterator<Item = (usize, &[u8])> {
+    let lines = script.split_inclusive(|&byte| byte == b'\n').enumerate();
+    lines.filter_map(|(at, line)| {
+        let ended = line.strip_suffix(b"\n");
+        // A carriage return is dropped before a line end, and nowhere else.
+        let line = ended.map_or(line, |line| line.strip_suffix(b"\r").unwrap_or(line));
         let comment = line.iter().position(|&byte| byte == b'#');
         let call = &line[..comment.unwrap_or(line.len())];
-        let call = match comment {
-            None => call.strip_suffix(b"\r").unwrap_or(call),
-            Some(_) => call,
-        };
-        call.iter().any(|byte| !matches!(byte, b' ' | b'\t'))
-    });
-    asking.nth(place).map(|(at, line)| (at + 1, line))
+        let asks = call.iter().any(|byte| !matches!(byte, b' ' | b'\t'));
+        asks.then(|| (at + 1, line))
+    })
+}
+
+/// The line number and the text of the call that the answer at `place` belongs to.
+fn call_of_answer(script: &[u8], place: usize) -> Option<(usize, &[u8])> {
+    calls_of(script).nth(place)
 }
 
 /// Bytes as a report shows them: on one line, and cut where they are long.
@@ -201,6 +218,29 @@ mod tests {
         let told = told(&expected, 0, &run(&found, 0)).unwrap();
         assert!(told.contains("from byte 960 on"), "{told}");
         assert!(told.contains("ab', found") && told.ends_with("ac'"));
+    }
+
+    #[test]
+    fn a_run_is_unfit_where_calls_stay_without_an_answer() {
+        let script = b"# no call\n \t\r\none # call\n\r# a word\ntwo\r";
+        let answers = answers_of(b"ok\nbad line: x\nbad line: x\n");
+        assert_eq!(unfit(script, &answers, &run("", 1)), None);
+        for (answers, status) in [
+            (&answers[..2], Some(1)),
+            (&[], Some(0)),
+            (&answers, Some(0)),
+        ] {
+            let run = Run {
+                status,
+                ..run("", 0)
+            };
+            assert!(unfit(script, answers, &run).is_some());
+        }
+        let stopped = Run {
+            status: None,
+            ..run("", 0)
+        };
+        assert!(unfit(script, &answers, &stopped).is_some());
     }
 
     #[test]

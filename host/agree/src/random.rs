@@ -35,6 +35,11 @@ impl Random {
         choices[self.below(choices.len() as u64) as usize]
     }
 
+    /// One of the values, of which there is at least one.
+    pub fn one_of<T: Copy>(&mut self, values: &[T]) -> T {
+        values[self.below(values.len() as u64) as usize]
+    }
+
     /// Any bytes, `length` of them.
     pub fn bytes(&mut self, length: usize) -> Vec<u8> {
         (0..length).map(|_| self.number() as u8).collect()

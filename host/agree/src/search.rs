@@ -78,11 +78,32 @@ fn tag_of(name: &str) -> u64 {
     mixed.number()
 }
 
-/// What the statistics count an answer as: its first word, and of a bad line both.
+/// What the statistics count an answer as: its first word, and of a bad line and a refusal the second as well.
 fn kind_of(answer: &[u8]) -> String {
     let text = String::from_utf8_lossy(answer);
-    match text.split_once(' ') {
-        Some((word, _)) if word != "bad" => word.to_string(),
-        _ => text.into_owned(),
+    let words: Vec<&str> = text.split(' ').collect();
+    match words.as_slice() {
+        [first @ ("bad" | "refused"), second, ..] => format!("{first} {second}"),
+        [first, ..] => first.to_string(),
+        [] => String::new(),
+    }
+}
+
+#[cfg(test)]
+mod tests {
+    use super::*;
+
+    #[test]
+    fn answers_are_counted_by_what_they_tell() {
+        let kinds = [
+            ("ok length=3", "ok"),
+            ("yes", "yes"),
+            ("bad line", "bad line"),
+            ("refused 8 tested=3", "refused 8"),
+            ("refused 15", "refused 15"),
+        ];
+        for (answer, kind) in kinds {
+            assert_eq!(kind_of(answer.as_bytes()), kind);
+        }
     }
 }

@@ -31,7 +31,7 @@ fn a_wrong_answer_is_found_and_shrunk() {
 
 #[test]
 fn a_program_agrees_with_itself_on_every_subject() {
-    for subject in &SUBJECTS {
+    for subject in SUBJECTS {
         let tool = Program::tool();
         let seen = search(subject, 7, 1500, &tool, &tool).unwrap();
         assert_eq!(seen.scripts, 2);

@@ -11,15 +11,37 @@ pub type Answer<T> = Result<T, Refusal>;
 pub struct Refusal {
     /// The number that document 01 gives for it, never 0.
     pub number: u64,
+    /// How many entries were tested: a lookup tells it with number 8, and no other refusal does.
+    pub tested: Option<u64>,
+}
+
+impl Refusal {
+    /// A refusal that is its number alone.
+    pub fn alone(number: u64) -> Refusal {
+        let tested = None;
+        Refusal { number, tested }
+    }
 }
 
 impl fmt::Display for Refusal {
     fn fmt(&self, out: &mut fmt::Formatter<'_>) -> fmt::Result {
-        write!(out, "refused {}", self.number)
+        write!(out, "refused {}", self.number)?;
+        match self.tested {
+            Some(count) => write!(out, " tested={count}"),
+            None => Ok(()),
+        }
     }
 }
 
 impl std::error::Error for Refusal {}
+
+/// The answer of a call that has no values to give.
+pub(crate) fn done_by(number: u64) -> Answer<()> {
+    match number {
+        0 => Ok(()),
+        number => Err(Refusal::alone(number)),
+    }
+}
 
 /// Makes a call with `ROOM` words lent for its values, and reads what it gives out of them.
 pub(crate) fn answer_of<T, const ROOM: usize>(
@@ -27,32 +49,61 @@ pub(crate) fn answer_of<T, const ROOM: usize>(
     given: impl FnOnce(&[u64; ROOM]) -> T,
 ) -> Answer<T> {
     let mut words = [0; ROOM];
-    match call(&mut words) {
-        0 => Ok(given(&words)),
-        number => Err(Refusal { number }),
-    }
+    done_by(call(&mut words)).map(|()| given(&words))
+}
+
+/// The same for a lookup, which with number 8 leaves the count of entries tested in the first word.
+pub(crate) fn lookup_of<T, const ROOM: usize>(
+    call: impl FnOnce(&mut [u64; ROOM]) -> u64,
+    given: impl FnOnce(&[u64; ROOM]) -> T,
+) -> Answer<T> {
+    let mut words = [0; ROOM];
+    done_by(call(&mut words))
+        .map(|()| given(&words))
+        .map_err(|refusal| match refusal.number {
+            8 => Refusal {
+                tested: Some(words[0]),
+                ..refusal
+            },
+            _ => refusal,
+        })
 }
 
 #[cfg(test)]
 mod tests {
     use super::*;
 
+    /// A call that writes its words and answers a number.
+    fn call(number: u64) -> impl FnOnce(&mut [u64; 2]) -> u64 {
+        move |words| {
+            *words = [5, 6];
+            number
+        }
+    }
+
     #[test]
     fn zero_gives_the_words() {
-        let answer = answer_of(
-            |words: &mut [u64; 2]| {
-                *words = [5, 6];
-                0
-            },
-            |words| words[0] * 10 + words[1],
-        );
-        assert_eq!(answer, Ok(56));
+        let given = |words: &[u64; 2]| words[0] * 10 + words[1];
+        assert_eq!(answer_of(call(0), given), Ok(56));
+        assert_eq!(lookup_of(call(0), given), Ok(56));
+        assert_eq!(done_by(0), Ok(()));
     }
 
     #[test]
     fn any_other_number_is_a_refusal() {
-        let answer: Answer<u64> = answer_of(|_: &mut [u64; 1]| 8, |words| words[0]);
-        assert_eq!(answer, Err(Refusal { number: 8 }));
-        assert_eq!(answer.unwrap_err().to_string(), "refused 8");
+        let refusals = [
+            answer_of(call(8), |words| words[0]).unwrap_err(),
+            lookup_of(call(4), |words| words[0]).unwrap_err(),
+            done_by(12).unwrap_err(),
+        ];
+        let told = refusals.map(|refusal| refusal.to_string());
+        assert_eq!(told, ["refused 8", "refused 4", "refused 12"]);
+    }
+
+    #[test]
+    fn an_8_of_a_lookup_tells_how_many_were_tested() {
+        let refusal = lookup_of(call(8), |words| words[0]).unwrap_err();
+        assert_eq!((refusal.number, refusal.tested), (8, Some(5)));
+        assert_eq!(refusal.to_string(), "refused 8 tested=5");
     }
 }

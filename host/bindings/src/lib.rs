@@ -3,9 +3,26 @@
 //! Every call of the library has one shape: lent slices and numbers in, the number of document 01 out
 //! (0 where accepted), and the values written into lent words. A caller here sees none of that: a call
 //! takes slices and numbers, and answers what the library gives or the [`Refusal`].
+//!
+//! Why the calls are safe: a slice of Rust is aligned, not null and as long as it says, and a mutable one overlaps no
+//! other. That is all that the library asks of its callers. It is proved to read and write nothing else.
 
 mod answer;
+mod build;
 mod checksum;
+mod flash;
+mod guids;
+#[cfg(test)]
+mod sample;
+mod view;
 
 pub use answer::{Answer, Refusal};
+pub use build::{extend, start, NewEntry};
 pub use checksum::checksum;
+pub use flash::{
+    directory, entry, find, find_image, part, Directory, Entry, ImageMatch, Match, Part,
+};
+pub use guids::{
+    guid_entry, guid_extend, guid_find, guid_start, guids, Guid, GuidEntry, GuidMatch, GuidTable,
+};
+pub use view::{view, view_entry, view_part};

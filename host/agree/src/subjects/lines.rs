@@ -92,6 +92,13 @@ fn dressed(random: &mut Random, words: &[Vec<u8>]) -> Vec<u8> {
     line
 }
 
+/// A call with one of its words broken.
+pub fn broken(random: &mut Random, call: &str) -> Vec<u8> {
+    let mut words: Vec<Vec<u8>> = call.split(' ').map(|word| word.into()).collect();
+    break_words(random, &mut words);
+    words.join(&b' ')
+}
+
 /// Changes one word: leaves it out, says it twice, puts another in its place.
 fn break_words(random: &mut Random, words: &mut Vec<Vec<u8>>) {
     let place = random.below(words.len() as u64) as usize;

@@ -3,7 +3,14 @@
 //! To add a subject, write its module with a `SUBJECT` and add it to [`SUBJECTS`].
 
 mod buffers;
+mod build;
+mod directory;
+mod draft;
+mod flash;
+mod guids;
+mod image;
 mod lines;
+mod view;
 mod words;
 
 use crate::random::Random;
@@ -18,7 +25,14 @@ pub struct Subject {
     pub script: fn(&mut Random, u64) -> Script,
 }
 
-pub static SUBJECTS: [Subject; 2] = [lines::SUBJECT, buffers::SUBJECT];
+pub static SUBJECTS: &[Subject] = &[
+    lines::SUBJECT,
+    buffers::SUBJECT,
+    flash::SUBJECT,
+    view::SUBJECT,
+    build::SUBJECT,
+    guids::SUBJECT,
+];
 
 #[cfg(test)]
 mod tests {
@@ -26,7 +40,7 @@ mod tests {
 
     #[test]
     fn a_script_follows_from_its_seed_alone() {
-        for subject in &SUBJECTS {
+        for subject in SUBJECTS {
             let script = |seed| (subject.script)(&mut Random::from_seed(seed), 200);
             assert_eq!(script(3), script(3), "{}", subject.name);
             assert_ne!(script(3), script(4), "{}", subject.name);

@@ -1,7 +1,7 @@
 //! The lent bytes: buffers by name, made, filled, copied, changed and shown.
 
 use super::call::{BadLine, Call};
-use super::lines::{as_hex, hex, name, number, shown};
+use super::lines::{as_hex, hex, name, number, number8, shown};
 use super::State;
 use std::collections::BTreeMap;
 use std::ffi::OsStr;
@@ -91,7 +91,7 @@ fn buffer(state: &mut State, words: &[&[u8]]) -> Result<String, BadLine> {
     let name = name("NAME", words[0])?;
     let length = number("LENGTH", words[1], MOST_BYTES)?;
     let byte = match words.get(2) {
-        Some(word) => number("BYTE", word, u64::from(u8::MAX))? as u8,
+        Some(word) => number8("BYTE", word)?,
         None => 0,
     };
     let mut bytes = room_for(length as usize)?;

@@ -1,6 +1,7 @@
-//! A call of the language as a row of its subject's table, and the reason that a line is none.
+//! A call of the language as a row of its subject's table, how its answer is told, and the reason that a line is none.
 
 use super::State;
+use bindings::Answer;
 
 /// One call: its row in the table of its subject.
 pub struct Call {
@@ -28,6 +29,14 @@ impl Call {
             name = self.name,
             words = self.words
         )))
+    }
+}
+
+/// The line that tells what the library answered.
+pub fn told<T>(answer: Answer<T>, given: impl FnOnce(T) -> String) -> String {
+    match answer {
+        Ok(value) => given(value),
+        Err(refusal) => refusal.to_string(),
     }
 }
 

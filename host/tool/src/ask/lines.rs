@@ -42,6 +42,16 @@ pub fn number(role: &str, word: &[u8], most: u64) -> Result<u64, BadLine> {
     })
 }
 
+/// A NUMBER of 8 bits.
+pub fn number8(role: &str, word: &[u8]) -> Result<u8, BadLine> {
+    Ok(number(role, word, u64::from(u8::MAX))? as u8)
+}
+
+/// A NUMBER of 32 bits.
+pub fn number32(role: &str, word: &[u8]) -> Result<u32, BadLine> {
+    Ok(number(role, word, u64::from(u32::MAX))? as u32)
+}
+
 fn is_digit(byte: u8, base: u32) -> bool {
     char::from(byte).is_digit(base)
 }
@@ -133,8 +143,10 @@ mod tests {
         ] {
             assert_eq!(number("OFFSET", word.as_bytes(), most), Ok(value), "{word}");
         }
-        assert_eq!(number("BYTE", b"255", 255), Ok(255));
-        assert!(number("BYTE", b"256", 255).is_err());
+        assert_eq!(number8("BYTE", b"255"), Ok(255));
+        assert!(number8("BYTE", b"256").is_err());
+        assert_eq!(number32("LEVEL", b"4294967295"), Ok(u32::MAX));
+        assert!(number32("LEVEL", b"4294967296").is_err());
         for word in [
             "",
             "0x",

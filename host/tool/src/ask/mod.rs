@@ -4,8 +4,12 @@
 //! it keeps between calls to [`State`].
 
 mod buffers;
+mod build;
 mod call;
+mod flash;
+mod guids;
 mod lines;
+mod view;
 
 use crate::ending::Ending;
 use buffers::Buffers;
@@ -15,7 +19,13 @@ use std::fs::File;
 use std::io::{self, BufRead, BufReader, Write};
 
 /// The calls of each subject, in the order in which the help shows them.
-static TABLES: [&[Call]; 1] = [&buffers::CALLS];
+static TABLES: &[&[Call]] = &[
+    &buffers::CALLS,
+    &flash::CALLS,
+    &view::CALLS,
+    &build::CALLS,
+    &guids::CALLS,
+];
 
 /// What the program keeps from one call to the next.
 #[derive(Default)]
@@ -107,12 +117,20 @@ fn answer_to(state: &mut State, name: &[u8], words: &[&[u8]]) -> Result<String, 
     (call.answer)(state, words)
 }
 
-/// The help of `ask`: how a line is written, and every call.
+/// The help of `ask`: how a line is written, and every call, subject by subject.
 pub fn help() -> String {
+    /// How many columns a call takes before the text on it. A longer one has a line of its own.
+    const COLUMNS: usize = 36;
     let mut text = String::from(LANGUAGE);
-    for call in TABLES.iter().flat_map(|table| table.iter()) {
-        let form = format!("{} {}", call.name, call.words);
-        text.push_str(&format!("  {:<27}{}\n", form.trim_end(), call.gives));
+    for table in TABLES {
+        text.push('\n');
+        for call in table.iter() {
+            let form = format!("  {} {}", call.name, call.words);
+            text.push_str(&match form.len() < COLUMNS {
+                true => format!("{form:<COLUMNS$}{}\n", call.gives),
+                false => format!("{form}\n{:COLUMNS$}{}\n", "", call.gives),
+            });
+        }
     }
     text
 }
@@ -123,9 +141,11 @@ kpalumere ask [FILE]: one line is one call, one line is its answer.
 
 Calls are read from FILE, or from standard input. Each answer is written before the next line is read. # starts a
 comment; a line with nothing else has no answer. Words are parted by spaces or tabs.
-  NUMBER   decimal digits, or 0x and hexadecimal digits (LENGTH, OFFSET, BYTE)
-  HEX      an even number of hexadecimal digits, or - for no bytes
   NAME     letters, digits and _; it names a buffer, whose bytes are lent to the calls
+  HEX      an even number of hexadecimal digits, or - for no bytes
+  GUID     hexadecimal digits in groups of 8, 4, 4, 4 and 12, parted by -
+Most other words are numbers: decimal digits, or 0x and hexadecimal digits.
+What the library does not accept is answered 'refused N', where N is the number of document 01.
 A line that is no call is answered 'bad line: ' with the reason; it changes nothing, and the status is 1 at the end.
 docs/ASK.md has the whole language.
 
@@ -135,6 +155,25 @@ Calls:
 #[cfg(test)]
 mod tests {
     use super::*;
+
+    /// The answers to calls that follow others, every one of which is accepted.
+    pub fn answers_after(others: &str, calls: &str) -> Vec<String> {
+        let (answers, _) = answers_to((others.to_string() + calls).as_bytes());
+        let mut answers: Vec<String> = answers.lines().map(String::from).collect();
+        let after = answers.split_off(others.lines().count());
+        assert!(answers.iter().all(|a| a.starts_with("ok")), "{answers:?}");
+        after
+    }
+
+    /// Every one of these lines, after others that are accepted, is bad and changes no buffer.
+    pub fn all_are_bad(others: &str, lines: &[&str]) {
+        for line in lines {
+            let answers = answers_after(others, &format!("digest a\n{line}\ndigest a\n"));
+            assert_eq!(answers.len(), 3, "{line}");
+            assert!(answers[1].starts_with("bad line: "), "{line}: {answers:?}");
+            assert_eq!(answers[0], answers[2], "{line}");
+        }
+    }
 
     /// The answers to a script, and how the conversation ended.
     fn answers_to(script: &[u8]) -> (String, Ending) {

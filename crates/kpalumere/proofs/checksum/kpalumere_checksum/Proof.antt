@@ -2,7 +2,7 @@ use borrow.Author.Needs.{needs}
 use mathlib.Core.Path.{sym, ap}
 use Rattle.reply.specs.Reply.{given}
 use Rattle.lent.proofs.Laws.{given-number, given-words}
-use Rattle.kpalumere.specs.Layout.{layNumber}
+use Rattle.lent.specs.Lent.{layNumber}
 use Rattle.kpalumere.proofs.checksum.kpalumere_checksum.Statement.{statement}
 use Rattle.kpalumere.proofs.checksum.kpalumere_checksum.Tie as tie
 use Rattle.kpalumere.proofs.checksum.kpalumere_checksum.Reads as reads

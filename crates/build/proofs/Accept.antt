@@ -1,0 +1,102 @@
+-- A start and an extend are given exactly where the plain facts hold. Assumes nothing.
+use mathlib.Core.Path.{_≡_, refl, sym, ap, subst, _∙_}
+use mathlib.Core.Logic.{_⊎_, inl, inr}
+use mathlib.Core.List.{List}
+use mathlib.Core.Bool.{Bool, true, false, not, cond}
+use Prim.Native.Nat.{ℕ, _+_, _*_, _^_, _≤_}
+use native.Mathlib.Omega.{arith}
+use borrow.Author.Tests.{leb-true, ltb-true, eqb-true, eqb-false, not-true, ne-eqb}
+use lib.ListN.{length}
+use lib.Dec.{leb, ltb, eqb}
+use Rattle.reply.specs.Reply.{Reply, given, refused, then}
+use Rattle.reply.proofs.ReplyLaws.{past, then-given, one-by}
+use Rattle.directory.specs.Directory.{pspKind, directoryOf, directoryByCookie}
+use Rattle.directory.specs.Good.{GoodDirectory}
+use Rattle.directory.specs.declared.Directory.{Directory}
+use Rattle.directory.proofs.Accept.{cookie-acceptance}
+use Rattle.build.specs.declared.Fields.{Fields}
+use Rattle.build.specs.declared.Total.{Total}
+use Rattle.build.specs.declared.Total.the-variants as answer
+use Rattle.build.specs.Write.{startOf, placedIn, roomFor, extendOf, toldTotal}
+use Rattle.build.specs.Accept.{ToldApart, Startable, Extendable, WriteAcceptance}
+use Rattle.build.proofs.Cases.{start-room, room-given}
+
+totalBack : Reply ℕ → Total
+totalBack (given total) = answer.Given total
+totalBack (refused number carried) = answer.Refused (record { number = number })
+
+pub told-apart : ToldApart
+unfolding totalBack
+told-apart = record { total = one-by toldTotal totalBack back }
+  where
+    back : (x : Total) → totalBack (toldTotal x) ≡ x
+    back (answer.Given total) = refl
+    back (answer.Refused why) = refl
+
+-- a level number from 1 to 2 is 1 or 2
+one-or-two : (level : ℕ) → 1 ≤ level → level ≤ 2 → (level ≡ 1) ⊎ (level ≡ 2)
+one-or-two level a b = by (eqb level 1) refl
+  where
+    by : (t : Bool) → eqb level 1 ≡ t → (level ≡ 1) ⊎ (level ≡ 2)
+    by true e = inl (eqb-true level 1 e)
+    by false e = inr (let n = eqb-false level 1 e in omega arith)
+
+from-one : (level : ℕ) → (level ≡ 1) ⊎ (level ≡ 2) → (1 ≤ level) × (level ≤ 2)
+from-one level (inl e) = (omega arith, omega arith)
+from-one level (inr e) = (omega arith, omega arith)
+
+pub start-only : (level : ℕ) (s : List ℕ) (total : ℕ) → startOf level s ≡ given total → Startable level s × (total ≡ 0)
+unfolding startOf
+start-only level s total e =
+    let a = past (leb 1 level) _ _ _ e in
+    let b = past (leb level 2) _ _ _ (a .1) in
+    let r = past (leb 16 (length s)) _ _ _ (b .1) in
+    (record { either = one-or-two level (leb-true _ _ (a .0)) (leb-true _ _ (b .0)); room = leb-true _ _ (r .0) }, cc (r .1))
+
+pub start-all : (level : ℕ) (s : List ℕ) → Startable level s → startOf level s ≡ given 0
+start-all level s g = let l = from-one level (g .either) in sym (start-room level s (l .0) (l .1) (g .room))
+
+-- the test of a misplaced 0x40, as a fact and back
+placed-fact : (level type : ℕ) → placedIn level type ≡ true → (level ≡ 1 → ⊥) → type ≡ 0x40 → ⊥
+placed-fact level type h l = eqb-false _ _ (not-true _ (rw (ne-eqb level 1 l) at h))
+
+placed-test : (level type : ℕ) → ((level ≡ 1 → ⊥) → type ≡ 0x40 → ⊥) → placedIn level type ≡ true
+placed-test level type h = by (eqb level 1) refl
+  where
+    by : (b : Bool) → eqb level 1 ≡ b → cond b true (not (eqb type 0x40)) ≡ true
+    by true q = refl
+    by false q = ap not (ne-eqb type 0x40 (h (eqb-false level 1 q)))
+
+pub extend-only : (f : Fields) (s : List ℕ) (total : ℕ) → extendOf f s ≡ given total → (level : ℕ) × (n : ℕ) × Extendable f s level n × (total ≡ n + 1)
+unfolding roomFor
+extend-only f s total e =
+    let t = then-given (directoryByCookie pspKind 512 s 0) (roomFor f (length s)) e in
+    let d = t .0 in
+    let g = cookie-acceptance .only pspKind 512 s 0 d (t .1) in
+    let a = past (ltb (f .location) (2 ^ 62)) _ _ _ (t .2) in
+    let b = past (leb (f .mode) 3) _ _ _ (a .1) in
+    let p = past (placedIn (d .level) (f .class)) _ _ _ (b .1) in
+    let n = past (ltb (d .total) 512) _ _ _ (p .1) in
+    let r = past (leb (16 + d .total * 16 + 16) (length s)) _ _ _ (n .1) in
+    let at : d ≡ directoryOf 0 (d .level) (d .total) = ap (λ (o : ℕ). directoryOf o (d .level) (d .total)) (g .1) in (
+      d .level,
+      d .total,
+      record {
+        either = g .2;
+        good = subst (GoodDirectory pspKind 512 s) at (g .0);
+        fits = record { location = ltb-true _ _ (a .0); mode = leb-true _ _ (b .0); placed = placed-fact (d .level) (f .class) (p .0) };
+        few = ltb-true _ _ (n .0);
+        room = leb-true _ _ (r .0);
+      },
+      cc (r .1),
+    )
+
+pub extend-all : (f : Fields) (s : List ℕ) (level n : ℕ) → Extendable f s level n → extendOf f s ≡ given (n + 1)
+extend-all f s level n g =
+    let fits = g .fits in
+    let l = fits .location in
+    ap (λ (r : Reply Directory). then r (roomFor f (length s))) (cookie-acceptance .all pspKind 512 s (directoryOf 0 level n) (λ e. omega arith) (g .good) (g .either))
+    ∙ sym (room-given f (length s) (directoryOf 0 level n) (omega arith) (fits .mode) true (sym (placed-test level (f .class) (fits .placed))) refl (g .few) (g .room))
+
+pub write-acceptance : WriteAcceptance
+write-acceptance = record { start-only = start-only; start-all = start-all; extend-only = extend-only; extend-all = extend-all }

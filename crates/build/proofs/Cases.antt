@@ -1,0 +1,125 @@
+-- What the code comes to, case by case: each test that decides, and each row of writes. Assumes nothing.
+use mathlib.Core.Path.{_≡_, refl, sym, ap, _∙_}
+use mathlib.Core.List.{List, [], _++_, append-assoc, append-nil}
+use mathlib.Core.Bool.{Bool, true, false}
+use Prim.Native.Nat.{ℕ, _+_, _*_, _-_, _^_, _<_, _≤_}
+use native.Mathlib.Nat.{zero-add}
+use native.Mathlib.Omega.{arith}
+use borrow.Author.Tests.{lt-leb, le-leb, lt-ltb, le-ltb}
+use lib.ListN.{length, take, drop, length-drop, drop-of-length-le}
+use lib.Seq.{take-all, drop-drop}
+use Rattle.le.specs.Le.{leAt, leBytes, putBytes, putAt}
+use Rattle.le.proofs.Put.{put-some, put-join}
+use Rattle.fletcher.specs.Fletcher.{wordsAt, sumOf, weightedOf, fletcherOf}
+use Rattle.reply.specs.Reply.{given, refused, alone}
+use Rattle.directory.specs.Directory.{pspKind, cookieOf}
+use Rattle.directory.specs.declared.Directory.{Directory}
+use Rattle.build.specs.declared.Fields.{Fields}
+use Rattle.build.specs.Write.{entryBytes, entriesBytes, directoryBytes, startOf, startedBy, placedIn, roomFor, lengthened, extendedBy}
+
+module _ (level : ℕ) (s : List ℕ) where
+  pub start-below : level < 1 → refused 9 alone ≡ startOf level s
+  unfolding startOf
+  start-below a = rw (lt-leb 1 level a)
+
+  pub start-above : 1 ≤ level → 2 < level → refused 9 alone ≡ startOf level s
+  unfolding startOf
+  start-above a b = rw (le-leb 1 level a, lt-leb level 2 b)
+
+  pub start-short : 1 ≤ level → level ≤ 2 → length s < 16 → refused 12 alone ≡ startOf level s
+  unfolding startOf
+  start-short a b r = rw (le-leb 1 level a, le-leb level 2 b, lt-leb 16 (length s) r)
+
+  pub start-room : 1 ≤ level → level ≤ 2 → 16 ≤ length s → given 0 ≡ startOf level s
+  unfolding startOf
+  start-room a b r = rw (le-leb 1 level a, le-leb level 2 b, le-leb 16 (length s) r)
+
+module _ (f : Fields) (len : ℕ) (d : Directory) where
+  pub room-location : 0x3FFF_FFFF_FFFF_FFFF < f .location → refused 5 alone ≡ roomFor f len d
+  unfolding roomFor
+  room-location a = rw (le-ltb (f .location) (2 ^ 62) (omega arith))
+
+  module _ (a : f .location ≤ 0x3FFF_FFFF_FFFF_FFFF) where
+    pub room-mode : 3 < f .mode → refused 5 alone ≡ roomFor f len d
+    unfolding roomFor
+    room-mode b = rw (lt-ltb (f .location) (2 ^ 62) (omega arith), lt-leb (f .mode) 3 b)
+
+    module _ (b : f .mode ≤ 3) (p : Bool) (e : p ≡ placedIn (d .level) (f .class)) where
+      pub room-misplaced : p ≡ false → refused 14 alone ≡ roomFor f len d
+      unfolding roomFor
+      room-misplaced h = rw (lt-ltb (f .location) (2 ^ 62) (omega arith), le-leb (f .mode) 3 b, sym e ∙ h)
+
+      pub room-full : p ≡ true → 512 ≤ d .total → refused 3 alone ≡ roomFor f len d
+      unfolding roomFor
+      room-full h n = rw (lt-ltb (f .location) (2 ^ 62) (omega arith), le-leb (f .mode) 3 b, sym e ∙ h, le-ltb (d .total) 512 n)
+
+      pub room-short : p ≡ true → d .total < 512 → len < 16 + d .total * 16 + 16 → refused 12 alone ≡ roomFor f len d
+      unfolding roomFor
+      room-short h n r =
+          rw (lt-ltb (f .location) (2 ^ 62) (omega arith), le-leb (f .mode) 3 b, sym e ∙ h, lt-ltb (d .total) 512 n, lt-leb (16 + d .total * 16 + 16) len r)
+
+      pub room-given : p ≡ true → d .total < 512 → 16 + d .total * 16 + 16 ≤ len → given (d .total + 1) ≡ roomFor f len d
+      unfolding roomFor
+      room-given h n r =
+          rw (lt-ltb (f .location) (2 ^ 62) (omega arith), le-leb (f .mode) 3 b, sym e ∙ h, lt-ltb (d .total) 512 n, le-leb (16 + d .total * 16 + 16) len r)
+
+pub ruleset room-cases = (room-location, room-mode, room-misplaced, room-full, room-short, room-given)
+
+-- bytes written at p, behind those at a buffer's start
+next : (us vs s t u : List ℕ) (p : ℕ) → length us ≡ p → p + length vs ≤ length s → t ≡ putBytes us s 0 → u ≡ putBytes vs t p → u ≡ putBytes (us ++ vs) s 0
+next us vs s t u p e h f g =
+    g ∙ ap (λ (x : List ℕ). putBytes vs x p) f ∙ ap (λ (k : ℕ). putBytes vs (putBytes us s 0) k) (sym e ∙ sym (zero-add (length us))) ∙ put-join us vs s 0 (omega arith)
+
+-- a header's four numbers, written in order
+pub header-put : (level cookie : ℕ) (s t u v w : List ℕ) → 1 ≤ level → level ≤ 2 → 16 ≤ length s → cookie ≡ cookieOf pspKind level →
+    t ≡ putAt 4 cookie s 0 → u ≡ putAt 4 0xFFFF_FFFF t 4 → v ≡ putAt 4 0 u 8 → w ≡ putAt 4 0 v 12 → w ≡ startedBy level s (startOf level s)
+unfolding leAt leBytes wordsAt sumOf weightedOf fletcherOf entriesBytes directoryBytes
+header-put level cookie s t u v w a b h k e1 e2 e3 e4 =
+    let c = leBytes 4 cookie in
+    let two = next c (leBytes 4 0xFFFF_FFFF) s t u 4 refl (omega arith) e1 e2 in
+    let three = next (c ++ leBytes 4 0xFFFF_FFFF) (leBytes 4 0) s u v 8 refl (omega arith) two e3 in
+    let four = next (c ++ leBytes 4 0xFFFF_FFFF ++ leBytes 4 0) (leBytes 4 0) s v w 12 refl (omega arith) three e4 in
+    four ∙ ap (λ (x : ℕ). putBytes (leBytes 4 x ++ leBytes 4 0xFFFF_FFFF ++ leBytes 4 0 ++ leBytes 4 0) s 0) k ∙ ap (startedBy level s) (start-room level s a b h)
+
+-- an entry's five numbers, written in order
+pub entry-put : (f : Fields) (s t u v w x : List ℕ) → 16 ≤ length s →
+    t ≡ putAt 1 (f .class) s 0 → u ≡ putAt 1 (f .subprogram) t 1 → v ≡ putAt 2 0 u 2 → w ≡ putAt 4 (f .size) v 4 → x ≡ putAt 8 (f .location + f .mode * 2 ^ 62) w 8 →
+    x ≡ putBytes (entryBytes f) s 0
+unfolding leBytes entryBytes
+entry-put f s t u v w x h e1 e2 e3 e4 e5 =
+    let a = leBytes 1 (f .class) in
+    let b = a ++ leBytes 1 (f .subprogram) in
+    let c = b ++ leBytes 2 0 in
+    let two = next a (leBytes 1 (f .subprogram)) s t u 1 refl (omega arith) e1 e2 in
+    let three = next b (leBytes 2 0) s u v 2 refl (omega arith) two e3 in
+    let four = next c (leBytes 4 (f .size)) s v w 4 refl (omega arith) three e4 in
+    next (c ++ leBytes 4 (f .size)) (leBytes 8 (f .location + f .mode * 2 ^ 62)) s w x 8 refl (omega arith) four e5
+
+pub length-entryBytes : (f : Fields) → length (entryBytes f) ≡ 16
+unfolding leBytes entryBytes
+length-entryBytes f = refl
+
+-- a part to the buffer's end, lent to a writer at its start, is the buffer written in its middle
+part-put : (vs s ys : List ℕ) (at : ℕ) → at + length vs ≤ length s → ys ≡ putBytes vs (take (length s - at) (drop at s)) 0 →
+    take at s ++ (ys ++ drop (length s - at) (drop at s)) ≡ putBytes vs s at
+part-put vs s ys at h e =
+    let l : length (drop at s) ≡ length s - at = length-drop at s in
+    let all : take (length s - at) (drop at s) ≡ drop at s = take-all (length s - at) (drop at s) (omega arith) in
+    let behind : drop (length s - at) (drop at s) ≡ [] = drop-of-length-le (drop at s) {i = length s - at} (omega arith) in
+    let put : ys ≡ vs ++ drop (at + length vs) s =
+    e ∙ ap (λ (x : List ℕ). putBytes vs x 0) all ∙ put-some vs (drop at s) 0 (omega arith)
+    ∙ ap (λ (k : ℕ). vs ++ drop k (drop at s)) (zero-add (length vs)) ∙ ap (λ (x : List ℕ). vs ++ x) (drop-drop (length vs) at s) in
+    rw (behind, append-nil, put) (sym (append-assoc (take at s) vs (drop (at + length vs) s)) ∙ sym (put-some vs s at h))
+
+-- an entry through a part, the total, and the checksum
+pub append-put : (f : Fields) (s ys t u : List ℕ) (total at sum : ℕ) → 1 ≤ total → 16 + total * 16 ≤ length s → at ≡ 16 + (total - 1) * 16 →
+    ys ≡ putBytes (entryBytes f) (take (length s - at) (drop at s)) 0 →
+    t ≡ putAt 4 total (take at s ++ (ys ++ drop (length s - at) (drop at s))) 8 →
+    sum ≡ fletcherOf (take (at + 16 - 8) (drop 8 t)) → u ≡ putAt 4 sum t 4 → u ≡ extendedBy f s (given total)
+append-put f s ys t u total at sum one room place entry number checksum field =
+    let part : take at s ++ (ys ++ drop (length s - at) (drop at s)) ≡ putBytes (entryBytes f) s (16 + (total - 1) * 16) =
+    part-put (entryBytes f) s ys at (omega (arith, length-entryBytes f)) entry ∙ ap (putBytes (entryBytes f) s) place in
+    let whole : t ≡ lengthened f s total = number ∙ ap (λ (x : List ℕ). putAt 4 total x 8) part in
+    let long : at + 16 - 8 ≡ 8 + total * 16 = omega arith in
+    field ∙ ap (λ (k : ℕ). putAt 4 k t 4) (checksum ∙ ap (λ (k : ℕ). fletcherOf (take k (drop 8 t))) long)
+    ∙ ap (λ (x : List ℕ). putAt 4 (fletcherOf (take (8 + total * 16) (drop 8 x))) x 4) whole

@@ -1,0 +1,176 @@
+-- A directory's bytes hold what they were made of, and extends make them longer. Assumes nothing.
+use mathlib.Core.Path.{_≡_, refl, sym, ap, subst, _∙_}
+use mathlib.Core.Logic.{_⊎_}
+use mathlib.Core.List.{List, [], _∷_, _++_, append-assoc, append-nil}
+use Prim.Native.Nat.{ℕ, zero, suc, _+_, _*_, _<_, _≤_}
+use native.Mathlib.Nat.{zero-add}
+use native.Mathlib.Omega.{arith}
+use lib.ListN.{length, getD, drop, length-append, length-drop}
+use lib.Seq.{drop-drop, append-snoc}
+use Rattle.le.specs.Le.{leAt, leBytes, putBytes}
+use Rattle.le.proofs.Put.{put-some}
+use Rattle.fletcher.specs.Fletcher.{fletcherOf}
+use Rattle.reply.specs.Reply.{Reply, given, then}
+use Rattle.reply.proofs.ReplyLaws.{then-given}
+use Rattle.directory.specs.Directory.{pspKind, cookieOf, directoryOf, directoryByCookie}
+use Rattle.directory.specs.Entry.{fieldsAt, entryOf}
+use Rattle.directory.specs.Good.{GoodDirectory}
+use Rattle.directory.specs.declared.Directory.{Directory}
+use Rattle.directory.proofs.Accept.{cookie-acceptance}
+use Rattle.build.specs.declared.Fields.{Fields}
+use Rattle.build.specs.Write.{entryBytes, entriesBytes, summedBytes, directoryBytes, extendOf, extendedBy}
+use Rattle.build.specs.Accept.{Fits}
+use Rattle.build.specs.Back.{Sized, Each, nothing, also, fieldsOf, entriesFrom, Holds, extendAll}
+use Rattle.build.proofs.Cases.{length-entryBytes}
+use Rattle.build.proofs.Accept.{extend-only, extend-all}
+use Rattle.build.proofs.Places.{headed-cookie, headed-sum, headed-total, headed-zero, cookie-small, fletcher-small, directory-headed, length-directory, directory-summed, extended-bytes, entry-behind}
+
+-- no entry: what a place past the end of a list of entries counts as
+blank : Fields
+blank = record { class = 0; subprogram = 0; size = 0; location = 0; mode = 0 }
+
+each-at : {P : Fields → Type 0} {fs : List Fields} (i : ℕ) → Each P fs → i < length fs → P (getD fs i blank)
+each-at i nothing h = absurd (let z : ⊥ = omega arith in z)
+each-at zero (also p ps) h = p
+each-at (suc i) (also p ps) h = each-at i ps (omega arith)
+
+each-more : {P : Fields → Type 0} {gs fs : List Fields} → Each P gs → Each P fs → Each P (gs ++ fs)
+each-more nothing qs = qs
+each-more (also p ps) qs = also p (each-more ps qs)
+
+-- entries that a directory of this level may hold
+pub record Sound (level : ℕ) (fs : List Fields) : Type 0 where
+  pub either : (level ≡ 1) ⊎ (level ≡ 2)
+  pub few : length fs ≤ 512
+  pub sized : Each Sized fs
+  pub fits : Each (Fits level) fs
+
+-- the entry at e is f, with reserved bits zero
+abbrev Stands : Fields → List ℕ → ℕ → Type 0
+Stands f s e = (fieldsOf (fieldsAt s e) ≡ f) × (leAt 2 s (e + 2) ≡ 0)
+
+-- of entries behind p, each stands at its place
+stands : (level : ℕ) (fs : List Fields) (p r : List ℕ) (j e : ℕ) → length p ≡ e → Each Sized fs → Each (Fits level) fs → j < length fs → Stands (getD fs j blank) (p ++ (entriesBytes fs ++ r)) (e + j * 16)
+unfolding entriesBytes
+stands level [] p r j e at zs ws h = absurd (let z : ⊥ = omega arith in z)
+stands level (f ∷ fs) p r zero e at (also z zs) (also w ws) h =
+    let here : e + 0 * 16 ≡ e = omega arith in
+    rw (here, append-assoc (entryBytes f) (entriesBytes fs) r) (entry-behind f p (entriesBytes fs ++ r) e at z (w .location) (w .mode))
+stands level (f ∷ fs) p r (suc j) e at (also z zs) (also w ws) h =
+    let there : e + suc j * 16 ≡ e + 16 + j * 16 = omega arith in
+    let shape : p ++ (entryBytes f ++ entriesBytes fs ++ r) ≡ p ++ entryBytes f ++ (entriesBytes fs ++ r) = simp append-assoc in
+    rw (there, shape) (stands level fs (p ++ entryBytes f) r j (e + 16) (length-append p (entryBytes f) ∙ omega (arith, length-entryBytes f)) zs ws (omega arith))
+
+-- entries that read as fs, one by one, read as fs
+entries-read : (s : List ℕ) (d : Directory) (fs : List Fields) (i : ℕ) → ((j : ℕ) → j < length fs → fieldsOf (entryOf pspKind s d (i + j)) ≡ getD fs j blank) → entriesFrom s d (length fs) i ≡ fs
+unfolding entriesFrom
+entries-read s d [] i h = refl
+entries-read s d (f ∷ fs) i h =
+    let zero-more : i + 0 ≡ i = omega arith in
+    let here : fieldsOf (entryOf pspKind s d i) ≡ f = ap (λ (k : ℕ). fieldsOf (entryOf pspKind s d k)) (sym zero-more) ∙ h 0 (omega arith) in
+    let later : entriesFrom s d (length fs) (i + 1) ≡ fs =
+    entries-read s d fs (i + 1) (λ j l. ap (λ (k : ℕ). fieldsOf (entryOf pspKind s d k)) (omega arith) ∙ h (suc j) (omega arith)) in
+    λ k. here k ∷ later k
+
+module _ (level : ℕ) (fs : List Fields) (sound : Sound level fs) (r : List ℕ) where
+  at : (i : ℕ) → i < length fs → Stands (getD fs i blank) (directoryBytes level fs ++ r) (16 + i * 16)
+  unfolding leBytes directoryBytes
+  at i h =
+      let c = leBytes 4 (cookieOf pspKind level) in
+      let k = leBytes 4 (fletcherOf (summedBytes fs)) in
+      let shape : directoryBytes level fs ++ r ≡ c ++ k ++ leBytes 4 (length fs) ++ leBytes 4 0 ++ (entriesBytes fs ++ r) = simp append-assoc in
+      rw shape (stands level fs (c ++ k ++ leBytes 4 (length fs) ++ leBytes 4 0) r i 16 refl (sound .sized) (sound .fits) h)
+
+  pub good : GoodDirectory pspKind 512 (directoryBytes level fs ++ r) (directoryOf 0 level (length fs))
+  good =
+      let c = cookieOf pspKind level in
+      let k = fletcherOf (summedBytes fs) in
+      let n = length fs in
+      let few = sound .few in
+      let rest = entriesBytes fs ++ r in
+      let shape = directory-headed level fs r in
+      record {
+        cookie = rw shape (headed-cookie c k n rest (cookie-small level));
+        total = rw shape (headed-total c k n rest (omega arith));
+        few = few;
+        present = omega (arith, length-append (directoryBytes level fs) r, length-directory level fs);
+        checksum = rw shape (headed-sum c k n rest (fletcher-small (summedBytes fs)) ∙ sym (directory-summed level fs k r));
+        reserved = rw shape (headed-zero c k n rest);
+        entries = λ i h. record {
+          reserved = omega (arith, at i h .1);
+          placed = λ l e. each-at i (sound .fits) h .placed l (sym (ap (λ (f : Fields). f .class) (at i h .0)) ∙ e);
+        };
+      }
+
+  pub holds : Holds level fs (directoryBytes level fs ++ r)
+  holds = record {
+    good = cookie-acceptance .all pspKind 512 (directoryBytes level fs ++ r) (directoryOf 0 level (length fs)) (λ e. omega arith) good (sound .either);
+    entries = entries-read (directoryBytes level fs ++ r) (directoryOf 0 level (length fs)) fs 0 (λ j h. ap (λ (k : ℕ). fieldsOf (fieldsAt (directoryBytes level fs ++ r) (16 + k * 16))) (zero-add j) ∙ at j h .0);
+  }
+
+-- bytes written at a buffer's start
+pub front : (vs s : List ℕ) (n : ℕ) → length vs ≡ n → n ≤ length s → putBytes vs s 0 ≡ vs ++ drop n s
+front vs s n e h = put-some vs s 0 (omega arith) ∙ ap (λ (k : ℕ). vs ++ drop k s) (zero-add (length vs) ∙ e)
+
+-- one entry more
+more-sound : (level : ℕ) (gs : List Fields) (f : Fields) → Sound level gs → length gs < 512 → Sized f → Fits level f → Sound level (gs ++ (f ∷ []))
+more-sound level gs f sound h z w = record {
+  either = sound .either;
+  few = omega (arith, length-append gs (f ∷ []));
+  sized = each-more (sound .sized) (also z nothing);
+  fits = each-more (sound .fits) (also w nothing);
+}
+
+-- an extend of a directory's bytes that is accepted
+pub step-only : (level : ℕ) (gs : List Fields) (f : Fields) (r : List ℕ) (total : ℕ) → Sound level gs → Sized f → extendOf f (directoryBytes level gs ++ r) ≡ given total →
+    Sound level (gs ++ (f ∷ [])) × (16 ≤ length r) × (extendedBy f (directoryBytes level gs ++ r) (given total) ≡ directoryBytes level (gs ++ (f ∷ [])) ++ drop 16 r)
+step-only level gs f r total sound sized e =
+    let s = directoryBytes level gs ++ r in
+    let x = extend-only f s total e in
+    let g = x .2 in
+    let d = directoryOf 0 (x .0) (x .1) in
+    let found : directoryByCookie pspKind 512 s 0 ≡ given d = cookie-acceptance .all pspKind 512 s d (λ q. omega arith) (g .good) (g .either) in
+    let same : d ≡ directoryOf 0 level (length gs) = cc (holds level gs sound r .good) in
+    let few : length gs < 512 = omega (arith, g .few, ap (λ (d : Directory). d .total) same) in
+    let number : total ≡ length gs + 1 = omega (arith, x .3, ap (λ (d : Directory). d .total) same) in
+    let room : 16 ≤ length r = omega (arith, g .room, ap (λ (d : Directory). d .total) same, length-append (directoryBytes level gs) r, length-directory level gs) in
+    let fits : Fits level f = subst (λ (l : ℕ). Fits l f) (ap (λ (d : Directory). d .level) same) (g .fits) in
+    (more-sound level gs f sound few sized fits, room, ap (λ (k : ℕ). extendedBy f s (given k)) number ∙ extended-bytes level gs f r room)
+
+-- an entry put in, and the others then, are all of them put in
+on : (level : ℕ) (fs gs : List Fields) (f : Fields) (r : List ℕ) →
+    directoryBytes level (gs ++ (f ∷ []) ++ fs) ++ drop (length fs * 16) (drop 16 r) ≡ directoryBytes level (gs ++ f ∷ fs) ++ drop (suc (length fs) * 16) r
+on level fs gs f r =
+    let long : 16 + length fs * 16 ≡ suc (length fs) * 16 = omega arith in
+    rw (append-snoc gs f fs, drop-drop (length fs * 16) 16 r, long) refl
+
+-- any list of them
+pub grown : (level : ℕ) (fs gs : List Fields) (r t : List ℕ) → Sound level gs → Each Sized fs → extendAll fs (directoryBytes level gs ++ r) ≡ given t →
+    Sound level (gs ++ fs) × (length fs * 16 ≤ length r) × (t ≡ directoryBytes level (gs ++ fs) ++ drop (length fs * 16) r)
+unfolding extendAll
+grown level [] gs r t sound zs e = rw append-nil (sound, omega arith, cc)
+grown level (f ∷ fs) gs r t sound (also z zs) e =
+    let s = directoryBytes level gs ++ r in
+    let x = then-given (extendOf f s) (λ total. extendAll fs (extendedBy f s (given total))) e in
+    let g = step-only level gs f r (x .0) sound z (x .1) in
+    let rest = grown level fs (gs ++ (f ∷ [])) (drop 16 r) t (g .0) zs (ap (extendAll fs) (sym (g .2)) ∙ x .2) in
+    (subst (Sound level) (append-snoc gs f fs) (rest .0), omega (arith, g .1, rest .1, length-drop 16 r), rest .2 ∙ on level fs gs f r)
+
+-- and entries that can be written are accepted
+pub grows : (level : ℕ) (fs gs : List Fields) (r : List ℕ) → Sound level gs → Each Sized fs → Each (Fits level) fs → length gs + length fs ≤ 512 → length fs * 16 ≤ length r →
+    extendAll fs (directoryBytes level gs ++ r) ≡ given (directoryBytes level (gs ++ fs) ++ drop (length fs * 16) r)
+unfolding extendAll
+grows level [] gs r sound zs ws few room = rw append-nil refl
+grows level (f ∷ fs) gs r sound (also z zs) (also w ws) few room =
+    let s = directoryBytes level gs ++ r in
+    let accepted : extendOf f s ≡ given (length gs + 1) = extend-all f s level (length gs) (record {
+      either = sound .either;
+      good = good level gs sound r;
+      fits = w;
+      few = omega arith;
+      room = omega (arith, length-append (directoryBytes level gs) r, length-directory level gs);
+    }) in
+    ap (λ (x : Reply ℕ). then x (λ total. extendAll fs (extendedBy f s (given total)))) accepted
+    ∙ ap (extendAll fs) (extended-bytes level gs f r (omega arith))
+    ∙ grows level fs (gs ++ (f ∷ [])) (drop 16 r) (more-sound level gs f sound (omega arith) z w) zs ws (omega (arith, length-append gs (f ∷ []))) (omega (arith, length-drop 16 r))
+    ∙ ap given (on level fs gs f r)

@@ -1,0 +1,7 @@
+pub mod Cases
+pub mod Accept
+pub mod Places
+pub mod Grow
+pub mod Accepted
+pub mod Back
+pub mod Values

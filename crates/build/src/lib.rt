@@ -1,0 +1,143 @@
+// A directory started at a buffer's start, and extended there by one entry.
+ghost use mathlib.Core.Path.{_≡_};
+ghost use Prim.Native.Nat.{_+_, _*_, _<_, _≤_, _^_};
+ghost use lib.ListN.{length};
+ghost use Rattle.reply.specs.Reply.{given};
+ghost use Rattle.le.specs.Le.{putBytes};
+ghost use Rattle.directory.specs.Directory.{pspKind, cookieOf};
+ghost use Rattle.build.specs.Write.{entryBytes, startOf, startedBy, placedIn, roomFor, extendOf, extendedBy, toldTotal};
+use directory::Checked;
+use directory::Directory;
+use reply::Refusal;
+use window::Offset;
+
+// What a writer is given of an entry: any numbers, since `extend` checks them.
+pub struct Fields {
+    pub class: u8,
+    pub subprogram: u8,
+    pub size: u32,
+    pub location: u64,
+    pub mode: u32,
+}
+
+// What a writer answers: the total of the directory it leaves, or why it left the buffer as it was.
+pub enum Total {
+    Given(u32),
+    Refused(Refusal),
+}
+
+// The checksum of a directory with no entries.
+const EMPTY: u32 = 0xFFFF_FFFF;
+
+// The cookie of a level.
+fn cookie(level: u32) -> u32
+    ensures { λ r. ⌜ r ≡ cookieOf pspKind level ⌝ }
+{
+    let kind = directory::psp();
+    if level == 1 { kind.one } else { kind.two }
+}
+
+// Starts a directory of a level: an empty one is written at the buffer's start, and nothing else.
+pub fn start(buf: &mut [u8], level: u32) -> Total
+    ensures { λ r. ⌜ toldTotal r ≡ startOf level (now (buf .entry)) ⌝ }
+    ensures { λ _. ⌜ now (buf .exit) ≡ startedBy level (now (buf .entry)) (startOf level (now (buf .entry))) ⌝ }
+{
+    if level < 1 {
+        return Total::Refused(Refusal::RANGE);
+    }
+    if 2 < level {
+        return Total::Refused(Refusal::RANGE);
+    }
+    if buf.len() < 16 {
+        return Total::Refused(Refusal::ROOM);
+    }
+    le::put32(buf, 0, cookie(level));
+    le::put32(buf, 4, EMPTY);
+    le::put32(buf, 8, 0);
+    le::put32(buf, 12, 0);
+    Total::Given(0)
+}
+
+// May an entry of this type stand in a directory of this level?
+fn placed(level: u32, class: u8) -> bool
+    ensures { λ r. ⌜ r ≡ placedIn level class ⌝ }
+{
+    if level == 1 {
+        return true;
+    }
+    class != 0x40
+}
+
+// What is asked of an entry for a good directory in a buffer of so many bytes: the new total.
+fn room_for(len: usize, d: Directory, f: Fields) -> Total
+    ensures { λ r. ⌜ toldTotal r ≡ roomFor f len d ⌝ }
+{
+    if 0x3FFF_FFFF_FFFF_FFFF < f.location {
+        return Total::Refused(Refusal::FIELD);
+    }
+    if 3 < f.mode {
+        return Total::Refused(Refusal::FIELD);
+    }
+    if placed(d.level, f.class) {
+        if 512 <= d.total {
+            return Total::Refused(Refusal::LIMITS);
+        }
+        if len < 16 + (d.total as usize) * 16 + 16 {
+            return Total::Refused(Refusal::ROOM);
+        }
+        Total::Given(d.total + 1)
+    } else {
+        Total::Refused(Refusal::MISPLACED)
+    }
+}
+
+// What an extend by this entry answers, with no byte written.
+pub fn admit(buf: &[u8], f: Fields) -> Total
+    ensures { λ r. ⌜ toldTotal r ≡ extendOf f (now (buf .entry)) ⌝ }
+{
+    match directory::directory_by_cookie(buf, directory::psp(), 512, Offset(0)) {
+        Checked::Given(d) => room_for(buf.len(), d, f),
+        Checked::Refused(why) => Total::Refused(why),
+    }
+}
+
+// Writes an entry's sixteen bytes at the start of a part.
+fn put_entry(part: &mut [u8], f: Fields)
+    requires { ⌜ (f .location < 2 ^ 62) × (f .mode ≤ 3) × (16 ≤ length (now part)) ⌝ }
+    ensures { λ _. ⌜ now (part .exit) ≡ putBytes (entryBytes f) (now (part .entry)) 0 ⌝ }
+{
+    let word = f.location + (f.mode as u64) * 0x4000_0000_0000_0000;
+    le::put8(part, 0, f.class);
+    le::put8(part, 1, f.subprogram);
+    le::put16(part, 2, 0);
+    le::put32(part, 4, f.size);
+    le::put64(part, 8, word);
+}
+
+// Writes the entry as the last of `total`, the total, and the new checksum.
+fn append(buf: &mut [u8], f: Fields, total: u32)
+    requires { ⌜ (f .location < 2 ^ 62) × (f .mode ≤ 3) ⌝ }
+    requires { ⌜ (1 ≤ total) × (total ≤ 512) × (16 + total * 16 ≤ length (now buf)) ⌝ }
+    ensures { λ _. ⌜ now (buf .exit) ≡ extendedBy f (now (buf .entry)) (given total) ⌝ }
+{
+    let at = 16 + (total as usize - 1) * 16;
+    put_entry(&mut buf[at..], f);
+    le::put32(buf, 8, total);
+    let end = at + 16;
+    let sum = fletcher::fletcher(&buf[8..end]);
+    le::put32(buf, 4, sum);
+}
+
+// Extends the directory at the buffer's start by one entry: the new total. Refused, every byte is kept.
+pub fn extend(buf: &mut [u8], f: Fields) -> Total
+    ensures { λ r. ⌜ toldTotal r ≡ extendOf f (now (buf .entry)) ⌝ }
+    ensures { λ _. ⌜ now (buf .exit) ≡ extendedBy f (now (buf .entry)) (extendOf f (now (buf .entry))) ⌝ }
+{
+    match admit(buf, f) {
+        Total::Given(total) => {
+            append(buf, f, total);
+            Total::Given(total)
+        }
+        Total::Refused(why) => Total::Refused(why),
+    }
+}

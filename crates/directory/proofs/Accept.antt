@@ -1,0 +1,125 @@
+-- A directory is given exactly where it is good, and an entry exactly where the index is below the total. Assumes nothing.
+use mathlib.Core.Path.{_≡_, refl, sym, ap, subst, _∙_}
+use mathlib.Core.Logic.{_⊎_, inl, inr}
+use mathlib.Core.List.{List}
+use mathlib.Core.Bool.{Bool, true, false, not, cond}
+use Prim.Native.Nat.{ℕ, _+_, _*_, _<_, _≤_}
+use native.Mathlib.Omega.{arith}
+use borrow.Author.Tests.{leb-true, ltb-true, eqb-true, eqb-false, not-true, le-leb, lt-ltb, le-ltb, eq-eqb, ne-eqb}
+use lib.ListN.{length, getD}
+use lib.Dec.{leb, ltb, eqb}
+use Rattle.le.specs.Le.{leAt}
+use Rattle.reply.specs.Reply.{Reply, given, refused, alone}
+use Rattle.reply.proofs.ReplyLaws.{past, passed, failed, clash}
+use Rattle.reply.proofs.ScanLaws.{scan-kept, scan-through}
+use Rattle.directory.specs.Directory.{cookieOf, totalAt, entryPlace, checksumAt, reservedZero, wellPlaced, entryStep, directoryOf, entriesAt, directoryAt, directoryByCookie}
+use Rattle.directory.specs.Entry.{entryOf, entryIn}
+use Rattle.directory.specs.Good.{GoodEntry, GoodDirectory, Acceptance, CookieAcceptance, EntryAcceptance}
+use Rattle.directory.specs.declared.Kind.{Kind}
+use Rattle.directory.specs.declared.Directory.{Directory}
+use Rattle.directory.specs.declared.Entry.{Entry}
+
+module _ (kind : Kind) (level : ℕ) (s : List ℕ) where
+  -- the test of a misplaced lead, as a fact and back
+  placed-fact : (e : ℕ) → wellPlaced kind level s e ≡ true → (level ≡ 1 → ⊥) → getD s e 0 ≡ kind .lead → ⊥
+  placed-fact e h l = eqb-false _ _ (not-true _ (rw (ne-eqb level 1 l) at h))
+
+  placed-test : (e : ℕ) → ((level ≡ 1 → ⊥) → getD s e 0 ≡ kind .lead → ⊥) → wellPlaced kind level s e ≡ true
+  placed-test e h = by (eqb level 1) refl
+    where
+      by : (b : Bool) → eqb level 1 ≡ b → cond b true (not (eqb (getD s e 0) (kind .lead))) ≡ true
+      by true q = refl
+      by false q = ap not (ne-eqb _ _ (h (eqb-false _ _ q)))
+
+  module _ (limit o : ℕ) where
+    step-fact : (d : Directory) (i : ℕ) (rest : Reply Directory) → entryStep kind level s o i rest ≡ given d → GoodEntry kind level s (entryPlace kind o i) × (rest ≡ given d)
+    step-fact d i rest e =
+        let g = past (reservedZero kind s (entryPlace kind o i)) _ _ _ e in
+        let h = past (wellPlaced kind level s (entryPlace kind o i)) _ _ _ (g .1) in
+        (record { reserved = ltb-true _ _ (g .0); placed = placed-fact (entryPlace kind o i) (h .0) }, h .1)
+
+    step-pass : (i : ℕ) (rest : Reply Directory) → GoodEntry kind level s (entryPlace kind o i) → entryStep kind level s o i rest ≡ rest
+    step-pass i rest g = passed _ _ _ _ (lt-ltb _ _ (g .reserved)) ∙ passed _ _ _ _ (placed-test (entryPlace kind o i) (g .placed))
+
+    pub only-good : (d : Directory) → directoryAt kind limit level s o ≡ given d → GoodDirectory kind limit s d × (d .place .0 ≡ o) × (d .level ≡ level)
+    unfolding directoryAt
+    only-good d e =
+        let n = totalAt s o in
+        let h1 = past (leb (o + 16) (length s)) _ _ _ e in
+        let h2 = past (eqb (leAt 4 s o) (cookieOf kind level)) _ _ _ (h1 .1) in
+        let h3 = past (leb n limit) _ _ _ (h2 .1) in
+        let h4 = past (leb (entryPlace kind o n) (length s)) _ _ _ (h3 .1) in
+        let h5 = past (eqb (leAt 4 s (o + 4)) (checksumAt kind s o n)) _ _ _ (h4 .1) in
+        let h6 = past (eqb (leAt 4 s (o + 12)) 0) _ _ _ (h5 .1) in
+        let w = scan-kept (entryStep kind level s o) (λ _. given (directoryOf o level n)) (λ i. GoodEntry kind level s (entryPlace kind o i)) d (step-fact d) n 0 (h6 .1) in
+        let q : directoryOf o level n ≡ d = cc (w .1) in
+        subst (λ (d : Directory). GoodDirectory kind limit s d × (d .place .0 ≡ o) × (d .level ≡ level)) q (
+          record {
+            cookie = eqb-true _ _ (h2 .0);
+            total = refl;
+            few = leb-true _ _ (h3 .0);
+            present = leb-true _ _ (h4 .0);
+            checksum = eqb-true _ _ (h5 .0);
+            reserved = eqb-true _ _ (h6 .0);
+            entries = λ i l. w .0 i (omega arith) (omega arith);
+          },
+          refl,
+          refl,
+        )
+
+pub all-good : (kind : Kind) (limit : ℕ) (s : List ℕ) (d : Directory) → GoodDirectory kind limit s d → directoryAt kind limit (d .level) s (d .place .0) ≡ given d
+unfolding directoryAt
+all-good kind limit s d g =
+    let o = d .place .0 in
+    let level = d .level in
+    let head : o + 16 ≤ length s = let p = g .present in omega arith in
+    simp (le-leb _ _ head, eq-eqb _ _ (g .cookie), g .total, le-leb _ _ (g .few), le-leb _ _ (g .present), eq-eqb _ _ (g .checksum), eq-eqb _ _ (g .reserved))
+    (scan-through (entryStep kind level s o) (λ _. given d) (λ i. GoodEntry kind level s (entryPlace kind o i)) (step-pass kind level s limit o) (d .total) 0 (λ j a b. g .entries j (omega arith)))
+
+pub acceptance : Acceptance
+acceptance = record { only = λ kind limit level s o. only-good kind level s limit o; all = all-good }
+
+module _ (kind : Kind) (limit : ℕ) (s : List ℕ) where
+  only-cookie : (o : ℕ) (d : Directory) → directoryByCookie kind limit s o ≡ given d → GoodDirectory kind limit s d × (d .place .0 ≡ o) × ((d .level ≡ 1) ⊎ (d .level ≡ 2))
+  unfolding directoryByCookie
+  only-cookie o d e = one (eqb (leAt 4 s o) (kind .one)) (past (leb (o + 16) (length s)) _ _ _ e .1)
+    where
+      two : (b : Bool) → cond b (directoryAt kind limit 2 s o) (refused 2 alone) ≡ given d → GoodDirectory kind limit s d × (d .place .0 ≡ o) × ((d .level ≡ 1) ⊎ (d .level ≡ 2))
+      two true h = let g = only-good kind 2 s limit o d h in (g .0, g .1, inr (g .2))
+      two false h = clash h
+
+      one : (b : Bool) → cond b (directoryAt kind limit 1 s o) (cond (eqb (leAt 4 s o) (kind .two)) (directoryAt kind limit 2 s o) (refused 2 alone)) ≡ given d →
+          GoodDirectory kind limit s d × (d .place .0 ≡ o) × ((d .level ≡ 1) ⊎ (d .level ≡ 2))
+      one true h = let g = only-good kind 1 s limit o d h in (g .0, g .1, inl (g .2))
+      one false h = two (eqb (leAt 4 s o) (kind .two)) h
+
+  all-cookie : (d : Directory) → (kind .one ≡ kind .two → ⊥) → GoodDirectory kind limit s d → (d .level ≡ 1) ⊎ (d .level ≡ 2) → directoryByCookie kind limit s (d .place .0) ≡ given d
+  unfolding directoryByCookie
+  all-cookie d apart g w = by w
+    where
+      head : d .place .0 + 16 ≤ length s
+      head = let p = g .present in omega arith
+
+      by : (d .level ≡ 1) ⊎ (d .level ≡ 2) → directoryByCookie kind limit s (d .place .0) ≡ given d
+      by (inl e) =
+          let c : leAt 4 s (d .place .0) ≡ kind .one = g .cookie ∙ ap (cookieOf kind) e in
+          simp (le-leb _ _ head, eq-eqb _ _ c) (ap (λ (l : ℕ). directoryAt kind limit l s (d .place .0)) (sym e) ∙ all-good kind limit s d g)
+      by (inr e) =
+          let c : leAt 4 s (d .place .0) ≡ kind .two = g .cookie ∙ ap (cookieOf kind) e in
+          simp (le-leb _ _ head, ne-eqb (leAt 4 s (d .place .0)) (kind .one) (λ q. apart (sym q ∙ c)), eq-eqb _ _ c) (ap (λ (l : ℕ). directoryAt kind limit l s (d .place .0)) (sym e) ∙ all-good kind limit s d g)
+
+pub cookie-acceptance : CookieAcceptance
+cookie-acceptance = record { only = only-cookie; all = all-cookie }
+
+module _ (kind : Kind) (s : List ℕ) (d : Directory) (i : ℕ) where
+  pub only-entry : (e : Entry) → entryIn kind s d i ≡ given e → (i < d .total) × (entryOf kind s d i ≡ e)
+  only-entry e h = let g = past (ltb i (d .total)) _ _ _ h in (ltb-true _ _ (g .0), cc (g .1))
+
+  pub all-entry : i < d .total → entryIn kind s d i ≡ given (entryOf kind s d i)
+  all-entry h = passed _ _ _ _ (lt-ltb _ _ h)
+
+  behind-none : d .total ≤ i → entryIn kind s d i ≡ refused 8 alone
+  behind-none h = failed _ _ _ _ (le-ltb _ _ h)
+
+pub entry-acceptance : EntryAcceptance
+entry-acceptance = record { only = only-entry; all = all-entry; behind = behind-none }

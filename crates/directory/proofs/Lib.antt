@@ -1,0 +1,6 @@
+pub mod Told
+pub mod Accept
+pub mod Lowest
+pub mod Parts
+pub mod PartAccept
+pub mod Independent

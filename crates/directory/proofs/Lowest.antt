@@ -1,0 +1,134 @@
+-- A search among a directory's entries gives the lowest that fits, or that none does. Assumes nothing.
+use mathlib.Core.Path.{_≡_, refl, sym, ap, _∙_}
+use mathlib.Core.List.{List}
+use mathlib.Core.Bool.{Bool, true, false, _&&_, cond}
+use Prim.Native.Nat.{ℕ, _+_, _<_, _≤_}
+use native.Mathlib.Omega.{arith}
+use borrow.Author.Tests.{eqb-true, eqb-false, eq-eqb}
+use lib.Dec.{eqb}
+use Rattle.reply.specs.Reply.{Reply, Carried, given, refused, alone, tested}
+use Rattle.reply.specs.Scan.{scan}
+use Rattle.reply.proofs.ReplyLaws.{clash}
+use Rattle.reply.proofs.ScanLaws.{First, hit, miss, first, scan-hit, scan-miss}
+use Rattle.directory.specs.Entry.{entryOf, leadIn, matchOf, findIn, foundAt, nowhere}
+use Rattle.directory.specs.Good.{Lowest, None, Leads, Matches, LowestLead, LowestMatch}
+use Rattle.directory.specs.declared.Kind.{Kind}
+use Rattle.directory.specs.declared.Directory.{Directory}
+use Rattle.directory.specs.declared.Entry.{Entry}
+use Rattle.directory.specs.declared.Match.{Match}
+
+-- true is not false
+apart : {A : Type 0} {b : Bool} → b ≡ true → b ≡ false → A
+apart t f = absurd (let z : _≡_ {A = ℕ} 0 1 = cc in let n : ⊥ = omega arith in n)
+
+-- how a search for the lowest index below n of which P holds ends
+pub data Searched {A : Type 0} (P : ℕ → Type 0) (found last : ℕ → A) (n : ℕ) (answer : A) : Type 0 where
+  lowest : (i : ℕ) → Lowest P n i → answer ≡ found i → Searched P found last n answer
+  none : None P n → answer ≡ last n → Searched P found last n answer
+
+-- a test that says whether P holds
+pub record Decided (P : ℕ → Type 0) : Type 0 where
+  pub test : ℕ → Bool
+  pub says : (i : ℕ) → P i → test i ≡ true
+  pub holds : (i : ℕ) → test i ≡ true → P i
+
+module _ {A : Type 0} (P : ℕ → Type 0) (by-test : Decided P) (found last : ℕ → A) (n : ℕ) where
+  fails : (i : ℕ) → by-test .test i ≡ false → P i → ⊥
+  fails i f p = apart (by-test .says i p) f
+
+  fails-test : (i : ℕ) → (P i → ⊥) → by-test .test i ≡ false
+  fails-test i f = by (by-test .test i) refl
+    where
+      by : (b : Bool) → by-test .test i ≡ b → b ≡ false
+      by true q = absurd (f (by-test .holds i q))
+      by false q = refl
+
+  pub lowest-found : (i : ℕ) → Lowest P n i → scan (λ i rest. cond (by-test .test i) (found i) rest) last n 0 ≡ found i
+  lowest-found i l = scan-hit (by-test .test) found last n 0 i (omega arith) (let b = l .inside in omega arith) (by-test .says i (l .here)) (λ j a b. fails-test j (l .earlier j b))
+
+  pub none-found : None P n → scan (λ i rest. cond (by-test .test i) (found i) rest) last n 0 ≡ last n
+  none-found f = scan-miss (by-test .test) found last n 0 n (omega arith) (λ j a b. fails-test j (f j b))
+
+  pub searched : Searched P found last n (scan (λ i rest. cond (by-test .test i) (found i) rest) last n 0)
+  searched = by (first (by-test .test) n 0 n (omega arith))
+    where
+      by : First (by-test .test) 0 n → Searched P found last n (scan (λ i rest. cond (by-test .test i) (found i) rest) last n 0)
+      by (hit i a b t f) = let l : Lowest P n i = record { inside = b; here = by-test .holds i t; earlier = λ j x. fails j (f j (omega arith) x) } in lowest i l (lowest-found i l)
+      by (miss f) = let e : None P n = λ j x. fails j (f j (omega arith) x) in none e (none-found e)
+
+-- the test of a match, as a fact and back
+pub match-says : (e : Entry) (type sub : ℕ) → (e .class ≡ type) × (e .subprogram ≡ sub) → matchOf e type sub ≡ true
+match-says e type sub m = rw (eq-eqb _ _ (m .0), eq-eqb _ _ (m .1))
+
+pub match-holds : (e : Entry) (type sub : ℕ) → matchOf e type sub ≡ true → (e .class ≡ type) × (e .subprogram ≡ sub)
+match-holds e type sub h = by (eqb (e .class) type) refl h
+  where
+    by : (b : Bool) → eqb (e .class) type ≡ b → b && eqb (e .subprogram) sub ≡ true → (e .class ≡ type) × (e .subprogram ≡ sub)
+    by true q h = (eqb-true _ _ q, eqb-true _ _ h)
+    by false q h = apart h refl
+
+abbrev leads-test : (kind : Kind) (s : List ℕ) (d : Directory) → Decided (Leads kind s d)
+leads-test kind s d = record { test = λ i. eqb (entryOf kind s d i .class) (kind .lead); says = λ i. eq-eqb _ _; holds = λ i. eqb-true _ _ }
+
+abbrev match-test : (kind : Kind) (s : List ℕ) (d : Directory) (type sub : ℕ) → Decided (Matches kind s d type sub)
+match-test kind s d type sub = record {
+  test = λ i. matchOf (entryOf kind s d i) type sub;
+  says = λ i. match-says (entryOf kind s d i) type sub;
+  holds = λ i. match-holds (entryOf kind s d i) type sub;
+}
+
+module _ (kind : Kind) (s : List ℕ) (d : Directory) where
+  lead-searched : Searched (Leads kind s d) (λ i. given (entryOf kind s d i)) (λ _. refused 8 alone) (d .total) (leadIn kind s d)
+  lead-searched = searched (Leads kind s d) (leads-test kind s d) (λ i. given (entryOf kind s d i)) (λ _. refused 8 alone) (d .total)
+
+  lead-only : (e : Entry) → leadIn kind s d ≡ given e → (i : ℕ) × Lowest (Leads kind s d) (d .total) i × (entryOf kind s d i ≡ e)
+  lead-only e q = by lead-searched
+    where
+      by : Searched (Leads kind s d) (λ i. given (entryOf kind s d i)) (λ _. refused 8 alone) (d .total) (leadIn kind s d) → (i : ℕ) × Lowest (Leads kind s d) (d .total) i × (entryOf kind s d i ≡ e)
+      by (lowest i l h) = let g : given (entryOf kind s d i) ≡ given e = sym h ∙ q in (i, l, cc)
+      by (none f h) = clash (sym h ∙ q)
+
+  lead-none : (number : ℕ) (carried : Carried) → leadIn kind s d ≡ refused number carried → None (Leads kind s d) (d .total)
+  lead-none number carried q = by lead-searched
+    where
+      by : Searched (Leads kind s d) (λ i. given (entryOf kind s d i)) (λ _. refused 8 alone) (d .total) (leadIn kind s d) → None (Leads kind s d) (d .total)
+      by (lowest i l h) = clash (sym q ∙ h)
+      by (none f h) = f
+
+  module _ (type sub : ℕ) where
+    find-searched : Searched (Matches kind s d type sub) foundAt nowhere (d .total) (findIn kind s d type sub)
+    find-searched = searched (Matches kind s d type sub) (match-test kind s d type sub) foundAt nowhere (d .total)
+
+    find-only : (m : Match) → findIn kind s d type sub ≡ given m → Lowest (Matches kind s d type sub) (d .total) (m .index) × (m .tested ≡ m .index + 1)
+    find-only m q = by find-searched
+      where
+        by : Searched (Matches kind s d type sub) foundAt nowhere (d .total) (findIn kind s d type sub) → Lowest (Matches kind s d type sub) (d .total) (m .index) × (m .tested ≡ m .index + 1)
+        by (lowest i l h) =
+            let g : foundAt i ≡ given m = sym h ∙ q in
+            let x : i ≡ m .index = cc in
+            let y : i + 1 ≡ m .tested = cc in
+            (rw (← x) l, omega arith)
+        by (none f h) = clash (sym h ∙ q)
+
+    find-none : (number : ℕ) (carried : Carried) → findIn kind s d type sub ≡ refused number carried → None (Matches kind s d type sub) (d .total) × (number ≡ 8) × (carried ≡ tested (d .total))
+    find-none number carried q = by find-searched
+      where
+        by : Searched (Matches kind s d type sub) foundAt nowhere (d .total) (findIn kind s d type sub) → None (Matches kind s d type sub) (d .total) × (number ≡ 8) × (carried ≡ tested (d .total))
+        by (lowest i l h) = clash (sym q ∙ h)
+        by (none f h) = let g : nowhere (d .total) ≡ refused number carried = sym h ∙ q in (f, cc, cc)
+
+pub lowest-lead : LowestLead
+lowest-lead = record {
+  found = λ kind s d. lowest-found (Leads kind s d) (leads-test kind s d) (λ i. given (entryOf kind s d i)) (λ _. refused 8 alone) (d .total);
+  absent = λ kind s d. none-found (Leads kind s d) (leads-test kind s d) (λ i. given (entryOf kind s d i)) (λ _. refused 8 alone) (d .total);
+  found-only = lead-only;
+  absent-only = lead-none;
+}
+
+pub lowest-match : LowestMatch
+lowest-match = record {
+  found = λ kind s d type sub. lowest-found (Matches kind s d type sub) (match-test kind s d type sub) foundAt nowhere (d .total);
+  absent = λ kind s d type sub. none-found (Matches kind s d type sub) (match-test kind s d type sub) foundAt nowhere (d .total);
+  found-only = find-only;
+  absent-only = find-none;
+}

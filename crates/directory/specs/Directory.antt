@@ -1,0 +1,82 @@
+-- A directory at an offset of an image, in document 01's words and order. Assumes nothing: these are definitions.
+use Prim.Native.Nat.{ℕ, _+_, _*_}
+use mathlib.Core.List.{List}
+use mathlib.Core.Bool.{Bool, true, not, cond}
+use lib.ListN.{length, getD, take, drop}
+use lib.Dec.{leb, ltb, eqb}
+use Rattle.le.specs.Le.{leAt}
+use Rattle.fletcher.specs.Fletcher.{fletcherOf}
+use Rattle.reply.specs.Reply.{Reply, given, refused, alone, guard}
+use Rattle.reply.specs.Scan.{scan}
+use Rattle.directory.specs.declared.Kind.{Kind}
+use Rattle.directory.specs.declared.Directory.{Directory}
+use Rattle.directory.specs.declared.Checked.{Checked}
+use Rattle.directory.specs.declared.Checked.the-variants as checked
+
+-- PSP directories: "$PSP" and "$PL2", entries of 16 bytes, type 0x40 leads to level two, type 0x0B is a value, the 16 bits at 2 are below 1
+abbrev pub pspKind : Kind
+pspKind = record { one = 0x5053_5024; two = 0x324C_5024; entry = 16; lead = 0x40; value = 0x0B; clear = 1 }
+
+-- the cookie of a level: one of level one, another of level two
+abbrev pub cookieOf : Kind → ℕ → ℕ
+cookieOf kind level = cond (eqb level 1) (kind .one) (kind .two)
+
+-- the total that the bytes at o tell
+abbrev pub totalAt : List ℕ → ℕ → ℕ
+totalAt image o = leAt 4 image (o + 8)
+
+-- where entry i of a directory at o begins; where a directory of n entries ends
+abbrev pub entryPlace : Kind → ℕ → ℕ → ℕ
+entryPlace kind o i = o + 16 + i * kind .entry
+
+-- the checksum of a directory of n entries at o: over bytes 8 to the end of the entries
+abbrev pub checksumAt : Kind → List ℕ → ℕ → ℕ → ℕ
+checksumAt kind image o n = fletcherOf (take (8 + n * kind .entry) (drop (o + 8) image))
+
+-- the reserved bits of the entry at e are zero
+abbrev pub reservedZero : Kind → List ℕ → ℕ → Bool
+reservedZero kind image e = ltb (leAt 2 image (e + 2)) (kind .clear)
+
+-- the entry at e has not the type that leads to level two, but in level one
+abbrev pub wellPlaced : Kind → ℕ → List ℕ → ℕ → Bool
+wellPlaced kind level image e = cond (eqb level 1) true (not (eqb (getD image e 0) (kind .lead)))
+
+-- the tests made at entry i, then the entries behind it
+abbrev pub entryStep : {A : Type 0} → Kind → ℕ → List ℕ → ℕ → ℕ → Reply A → Reply A
+entryStep kind level image o i rest =
+    guard (reservedZero kind image (entryPlace kind o i)) 5  -- reserved zero (5)
+    (guard (wellPlaced kind level image (entryPlace kind o i)) 14  -- misplaced 0x40 (14)
+    rest)
+
+-- a directory that is given: where it begins, its level, its total
+abbrev pub directoryOf : ℕ → ℕ → ℕ → Directory
+directoryOf o level n = record { place = record { 0 = o }; level = level; total = n }
+
+-- entry by entry, of n entries
+abbrev pub entriesAt : Kind → ℕ → List ℕ → ℕ → ℕ → Reply Directory
+entriesAt kind level image o n = scan (entryStep kind level image o) (λ _. given (directoryOf o level n)) n 0
+
+-- the directory of a level at o, whose total is at most `limit` (512)
+unfoldable pub directoryAt : Kind → ℕ → ℕ → List ℕ → ℕ → Reply Directory
+directoryAt kind limit level image o =
+    let n = totalAt image o in
+    guard (leb (o + 16) (length image)) 1  -- 16 bytes present (1)
+    (guard (eqb (leAt 4 image o) (cookieOf kind level)) 2  -- cookie of the level asked for (2)
+    (guard (leb n limit) 3  -- n at most 512 (3)
+    (guard (leb (entryPlace kind o n) (length image)) 1  -- all entries present (1)
+    (guard (eqb (leAt 4 image (o + 4)) (checksumAt kind image o n)) 4  -- checksum (4)
+    (guard (eqb (leAt 4 image (o + 12)) 0) 5  -- header reserved zero (5)
+    (entriesAt kind level image o n))))))  -- then entry by entry (5, 14)
+
+-- the directory at o of the level that its cookie names
+unfoldable pub directoryByCookie : Kind → ℕ → List ℕ → ℕ → Reply Directory
+directoryByCookie kind limit image o =
+    guard (leb (o + 16) (length image)) 1  -- 16 bytes present (1)
+    (cond (eqb (leAt 4 image o) (kind .one)) (directoryAt kind limit 1 image o)
+    (cond (eqb (leAt 4 image o) (kind .two)) (directoryAt kind limit 2 image o)
+    (refused 2 alone)))  -- neither cookie (2)
+
+-- what the answer tells
+abbrev pub toldDirectory : Checked → Reply Directory
+toldDirectory (checked.Given d) = given d
+toldDirectory (checked.Refused why) = refused (why .number) alone

@@ -1,0 +1,5 @@
+pub mod Directory
+pub mod Entry
+pub mod Part
+pub mod Good
+pub mod Independent

@@ -1,0 +1,97 @@
+-- Two images with the same way to a directory and the same bytes of it have the same replies of it. Assumes nothing.
+use mathlib.Core.Path.{_≡_, refl, sym, ap, _∙_}
+use mathlib.Core.List.{List}
+use Prim.Native.Nat.{ℕ, _+_, _≤_}
+use native.Mathlib.Omega.{arith}
+use lib.ListN.{length}
+use Rattle.reply.specs.Reply.{Reply, given, refused, alone, then}
+use Rattle.reply.proofs.ReplyLaws.{then-given, then-same}
+use Rattle.window.specs.Window.{offsetIn}
+use Rattle.window.specs.declared.Offset.{Offset}
+use Rattle.directory.specs.Directory.{directoryAt, entryPlace, totalAt}
+use Rattle.directory.specs.Entry.{entryIn, leadIn, findIn}
+use Rattle.directory.specs.Part.{leadsTo, partIn}
+use Rattle.directory.specs.Independent.{Agree, endOf}
+use Rattle.directory.specs.declared.Directory.{Directory}
+use Rattle.directory.specs.declared.Entry.{Entry}
+use Rattle.directory.proofs.Accept.{acceptance, entry-acceptance}
+use Rattle.directory.proofs.Independent.{independence, leads-same}
+use Rattle.flash.specs.Efs.{efsOf, inImage, pointerTo, pointerOf, rootOf}
+use Rattle.flash.specs.Flash.{Reading, levelOne, levelTwo, levelTwoAt, flashDirectory, flashEntry, flashPart, fromLookup, flashFind}
+use Rattle.flash.specs.Good.{GoodLength}
+use Rattle.flash.specs.Independent.{SameWay, FlashIndependence}
+use Rattle.flash.proofs.Ways.{Opened, one, two, opened, open-one, open-two}
+
+-- a directory that is given is given by every image that agrees on it
+given-same : (r : Reading) (level : ℕ) (s t : List ℕ) (o : ℕ) (d : Directory) → 16 ≤ r .kind .entry → Agree s t (d .place .0) (endOf (r .kind) d) →
+    directoryAt (r .kind) (r .limit) level s o ≡ given d → directoryAt (r .kind) (r .limit) level t o ≡ given d
+given-same r level s t o d wide agree e =
+    let g = acceptance .only (r .kind) (r .limit) level s o d e in
+    let place : d .place .0 ≡ o = g .1 in
+    let total : totalAt s o ≡ d .total = rw (← place) (g .0 .total) in
+    let same : Agree s t o (entryPlace (r .kind) o (totalAt s o)) = rw (total, ← place) agree in
+    sym (independence .directory (r .kind) (r .limit) level s t o wide same) ∙ e
+
+module _ (r : Reading) (s t : List ℕ) (long : length s ≡ length t) where
+  pointer-same : (p : ℕ) → pointerTo (r .window) s p ≡ pointerTo (r .window) t p
+  unfolding pointerTo
+  pointer-same p = rw (then-same (offsetIn (r .window) p) (inImage s) (inImage t) (λ o q. rw long), long)
+
+  root-same : efsOf (r .window) (r .candidates) s ≡ efsOf (r .window) (r .candidates) t →
+      ((e : Offset) → efsOf (r .window) (r .candidates) s ≡ given e → pointerOf (r .window) s (e .0) ≡ pointerOf (r .window) t (e .0)) →
+      rootOf (r .window) (r .candidates) s ≡ rootOf (r .window) (r .candidates) t
+  root-same efs pointers =
+      then-same (efsOf (r .window) (r .candidates) s) (λ e. pointerOf (r .window) s (e .0)) (λ e. pointerOf (r .window) t (e .0)) pointers
+      ∙ ap (λ (x : Reply Offset). then x (λ e. pointerOf (r .window) t (e .0))) efs
+
+module _ (r : Reading) (level : ℕ) (s t : List ℕ) (wide : 16 ≤ r .kind .entry) (way : SameWay r level s t) where
+  same-root : rootOf (r .window) (r .candidates) s ≡ rootOf (r .window) (r .candidates) t
+  unfolding pointerOf
+  same-root =
+      root-same r s t (way .long) (way .efs)
+      (λ e q. rw (way .late e q, way .early e q) (simp (pointer-same r s t (way .long))))
+
+  same-one : GoodLength s → (d : Directory) → 1 ≤ level → levelOne r s ≡ given d → levelOne r t ≡ given d
+  same-one z d h e =
+      let q = then-given (rootOf (r .window) (r .candidates) s) (λ o. directoryAt (r .kind) (r .limit) 1 s (o .0)) e in
+      ap (λ (x : Reply Offset). then x (λ o. directoryAt (r .kind) (r .limit) 1 t (o .0))) (sym same-root ∙ q .1)
+      ∙ given-same r 1 s t (q .0 .0) d wide (way .directories 1 h d (open-one r s d z e)) (q .2)
+
+  pub same-directory : (d : Directory) → flashDirectory r level s ≡ given d → flashDirectory r level t ≡ given d
+  same-directory d e = let o = opened r s d level e in by level refl (o .0) (o .1)
+    where
+      long : GoodLength s → GoodLength t
+      long z = record { from = rw (← (way .long)) (z .from); to = rw (← (way .long)) (z .to) }
+
+      by : (l : ℕ) → l ≡ level → GoodLength s → Opened r s d l → flashDirectory r l t ≡ given d
+      by l q z (one e) = open-one r t d (long z) (same-one z d (omega arith) e)
+      by l q z (two above a e) =
+          let k = then-given (leadIn (r .kind) s above) (levelTwoAt (r .kind) (r .limit) (r .window) s (above .place .0)) e in
+          let p = then-given (leadsTo (r .window) s (above .place .0) (k .0)) (directoryAt (r .kind) (r .limit) 2 s) (k .2) in
+          let lead = sym (independence .lead (r .kind) s t above wide (way .directories 1 (omega arith) above (open-one r s above z a))) ∙ k .1 in
+          let place = sym (leads-same (r .window) s t (way .long) (above .place .0) (k .0)) ∙ p .1 in
+          open-two r t d (long z) above (same-one z above (omega arith) a)
+          (ap (λ (x : Reply Entry). then x (levelTwoAt (r .kind) (r .limit) (r .window) t (above .place .0))) lead
+          ∙ ap (λ (x : Reply ℕ). then x (directoryAt (r .kind) (r .limit) 2 t)) place
+          ∙ given-same r 2 s t (p .0) d wide (way .directories 2 (omega arith) d (open-two r s d z above a e)) (p .2))
+
+  -- whatever is asked of the directory
+  same-after : {B : Type 0} (f : List ℕ → Directory → Reply B) (d : Directory) → flashDirectory r level s ≡ given d → (Agree s t (d .place .0) (endOf (r .kind) d) → f s d ≡ f t d) →
+      then (flashDirectory r level t) (f t) ≡ then (flashDirectory r level s) (f s)
+  same-after f d e h =
+      ap (λ (x : Reply Directory). then x (f t)) (same-directory d e) ∙ sym (h (way .directories level (omega arith) d e)) ∙ ap (λ (x : Reply Directory). then x (f s)) (sym e)
+
+  same-find : (d : Directory) (type sub : ℕ) → flashDirectory r level s ≡ given d → flashFind r level t type sub ≡ flashFind r level s type sub
+  same-find d type sub e =
+      ap (λ (x : Reply Directory). then (fromLookup x) (λ d. findIn (r .kind) t d type sub)) (same-directory d e)
+      ∙ sym (independence .lookup (r .kind) s t d type sub wide (way .directories level (omega arith) d e))
+      ∙ ap (λ (x : Reply Directory). then (fromLookup x) (λ d. findIn (r .kind) s d type sub)) (sym e)
+
+pub flash-independence : FlashIndependence
+flash-independence = record {
+  directory = λ r level s t d wide way. same-directory r level s t wide way d;
+  entry = λ r level s t d i wide way e. same-after r level s t wide way (λ s d. entryIn (r .kind) s d i) d e (independence .entry (r .kind) s t d i wide);
+  part = λ r level s t d i wide way e. same-after r level s t wide way (λ s d. partIn (r .kind) (r .window) s d i) d e (independence .part (r .kind) (r .window) s t d i wide);
+  lookup = λ r level s t d type sub wide way. same-find r level s t wide way d type sub;
+  behind = λ r level s d i e h. ap (λ (x : Reply Directory). then x (λ d. entryIn (r .kind) s d i)) e ∙ entry-acceptance .behind (r .kind) s d i h;
+}

@@ -1,0 +1,58 @@
+-- From a flash image to its directory pointer, in document 01's words and order. Assumes nothing: these are definitions.
+use Prim.Native.Nat.{ℕ, _+_, _-_}
+use mathlib.Core.List.{List, [], _∷_}
+use mathlib.Core.Bool.{Bool, not, _&&_, _||_, cond}
+use lib.ListN.{length, getD}
+use lib.Dec.{leb, ltb, eqb}
+use Rattle.le.specs.Le.{leAt}
+use Rattle.reply.specs.Reply.{Reply, given, refused, alone, guard, then}
+use Rattle.reply.specs.Scan.{scan}
+use Rattle.window.specs.Window.{offsetIn}
+use Rattle.window.specs.declared.Offset.{Offset}
+
+-- an EFS counts at o if its 0x24 bytes lie in the image and start with aa 55 aa 55
+abbrev pub counts : List ℕ → ℕ → Bool
+counts image o = leb (o + 0x24) (length image) && eqb (leAt 4 image o) 0x55AA_55AA
+
+-- a candidate at physical address a
+unfoldable pub candidateAt : ℕ → List ℕ → ℕ → Reply Offset
+candidateAt window image a = then (offsetIn window a) (λ o. guard (counts image (o .0)) 2 (given o))
+
+-- the first that is given
+abbrev pub orElse : {A : Type 0} → Reply A → Reply A → Reply A
+orElse (given a) rest = given a
+orElse (refused number carried) rest = rest
+
+-- candidate i, or what the candidates behind it answer
+abbrev pub efsStep : ℕ → List ℕ → List ℕ → ℕ → Reply Offset → Reply Offset
+efsStep window candidates image i rest = orElse (candidateAt window image (getD candidates i 0)) rest
+
+-- the EFS: the first candidate that counts; none: 2
+abbrev pub efsOf : ℕ → List ℕ → List ℕ → Reply Offset
+efsOf window candidates image = scan (efsStep window candidates image) (λ _. refused 2 alone) (length candidates) 0
+
+-- a pointer of 0 or 0xFFFFFFFF is absent
+abbrev pub absent : ℕ → Bool
+absent p = eqb p 0 || eqb p 0xFFFF_FFFF
+
+-- an offset beyond the image length: 7
+abbrev pub inImage : List ℕ → Offset → Reply Offset
+inImage image o = guard (leb (o .0) (length image)) 7 (given o)
+
+-- where pointer p leads
+unfoldable pub pointerTo : ℕ → List ℕ → ℕ → Reply Offset
+pointerTo window image p =
+    cond (leb (0x1_0000_0000 - window) p) (then (offsetIn window p) (inImage image))  -- 0xFF000000 or more: physical
+    (guard (ltb p window) 7  -- neither that nor below 0x01000000 (7)
+    (inImage image (record { 0 = p })))  -- below 0x01000000: a flash offset
+
+-- where the directory pointer of the EFS at e leads: the one at 0x14, or, absent, the one at 0x10; both absent: 8
+unfoldable pub pointerOf : ℕ → List ℕ → ℕ → Reply Offset
+pointerOf window image e =
+    cond (absent (leAt 4 image (e + 0x14)))
+    (guard (not (absent (leAt 4 image (e + 0x10)))) 8 (pointerTo window image (leAt 4 image (e + 0x10))))
+    (pointerTo window image (leAt 4 image (e + 0x14)))
+
+-- where level one begins
+abbrev pub rootOf : ℕ → List ℕ → List ℕ → Reply Offset
+rootOf window candidates image = then (efsOf window candidates image) (λ e. pointerOf window image (e .0))

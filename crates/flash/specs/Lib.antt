@@ -1,0 +1,4 @@
+pub mod Efs
+pub mod Flash
+pub mod Good
+pub mod Independent

@@ -1,0 +1,84 @@
+-- What starting and extending a table cite. Assumes nothing.
+use mathlib.Core.Path.{_≡_, sym, ap, _∙_}
+use mathlib.Core.List.{List, _++_, append-assoc}
+use mathlib.Core.Bool.{true, false}
+use Prim.Native.Nat.{ℕ, _+_, _-_, _<_, _≤_}
+use native.Mathlib.Numerals.{add-one}
+use native.Mathlib.Omega.{arith}
+use borrow.Author.Tests.{leb-true, le-leb, lt-leb, ne-eqb}
+use lib.ListN.{length, getD, take, drop, length-append, drop-of-length-le}
+use lib.Seq.{drop-cons}
+use lib.Dec.{leb}
+use Rattle.le.specs.Le.{leBytes, putBytes, putAt}
+use Rattle.le.proofs.Put.{put-join, length-leBytes}
+use Rattle.reply.specs.Reply.{given, refused, alone}
+use Rattle.reply.proofs.ReplyLaws.{past, then-given}
+use Rattle.guids.specs.declared.Guid.{Guid}
+use Rattle.guids.specs.declared.Totals.{Totals}
+use Rattle.guids.specs.Table.{tableOf}
+use Rattle.guids.specs.Write.{endBytes, startOf, allZero, roomFor, extendOf}
+use Rattle.guids.proofs.Walk.{Good, good-table}
+
+module _ (n : ℕ) (g : Guid) where
+  pub length-end : length (endBytes n g) ≡ 18
+  length-end = simp (length-append, length-leBytes)
+
+  -- a length and the two halves of a GUID, written one behind the other
+  pub put-end : (s : List ℕ) (o : ℕ) → o + 18 ≤ length s → putAt 8 (g .high) (putAt 8 (g .low) (putAt 2 n s o) (o + 2)) (o + 10) ≡ putBytes (endBytes n g) s o
+  put-end s o h =
+      let two : length (leBytes 2 n) ≡ 2 = length-leBytes 2 n in
+      let low : length (leBytes 8 (g .low)) ≡ 8 = length-leBytes 8 (g .low) in
+      let ten : length (leBytes 2 n ++ leBytes 8 (g .low)) ≡ 10 = simp (length-append, length-leBytes) in
+      let high : length (leBytes 8 (g .high)) ≡ 8 = length-leBytes 8 (g .high) in
+      ap (λ (x : List ℕ). putAt 8 (g .high) x (o + 10)) (rw two at (put-join (leBytes 2 n) (leBytes 8 (g .low)) s o (omega arith)))
+      ∙ (rw ten at (put-join (leBytes 2 n ++ leBytes 8 (g .low)) (leBytes 8 (g .high)) s o (omega arith)))
+      ∙ ap (λ (x : List ℕ). putBytes x s o) (append-assoc (leBytes 2 n) (leBytes 8 (g .low)) (leBytes 8 (g .high)))
+
+pub start-none : (s : List ℕ) → length s < 50 → startOf s ≡ refused 12 alone
+unfolding startOf
+start-none s h = simp (lt-leb 50 (length s) h)
+
+pub start-some : (s : List ℕ) → 50 ≤ length s → startOf s ≡ given 18
+unfolding startOf
+start-some s h = simp (le-leb 50 (length s) h)
+
+-- the test for zero bytes, one byte at a time
+module _ (s : List ℕ) (i : ℕ) where
+  pub zero-end : length s ≤ i → allZero (drop i s) ≡ true
+  unfolding allZero
+  zero-end h = rw (drop-of-length-le s h)
+
+  pub zero-step : i < length s → getD s i 0 ≡ 0 → allZero (drop i s) ≡ allZero (drop (i + 1) s)
+  unfolding allZero
+  zero-step h z = rw (add-one, drop-cons s i 0 h, z)
+
+  pub zero-stop : i < length s → (getD s i 0 ≡ 0 → ⊥) → allZero (drop i s) ≡ false
+  unfolding allZero
+  zero-stop h n = rw (drop-cons s i 0 h, ne-eqb (getD s i 0) 0 n)
+
+-- what an extend that is accepted says
+pub record Room (s bytes : List ℕ) (total : ℕ) : Type 0 where
+  pub old : Totals
+  pub good : Good s old
+  pub new : old .total + (length bytes + 18) ≡ total
+  pub small : total ≤ 65_535
+  pub fits : total ≤ length s - 32
+  pub zeros : allZero (take (length bytes + 18) (drop (length s - 32 - total) s)) ≡ true
+
+pub room-facts : (s bytes : List ℕ) (total : ℕ) → extendOf s bytes ≡ given total → Room s bytes total
+unfolding roomFor
+room-facts s bytes total e =
+    let t = then-given (tableOf s) (λ t. roomFor s (length bytes + 18) (t .total + (length bytes + 18))) e in
+    let n = t .0 .total + (length bytes + 18) in
+    let a = past (leb n 65_535) _ _ _ (t .2) in
+    let b = past (leb n (length s - 32)) _ _ _ (a .1) in
+    let d = past (allZero (take (length bytes + 18) (drop (length s - 32 - n) s))) _ _ (given n) (b .1) in
+    let q : n ≡ total = cc (d .1) in
+    record {
+      old = t .0;
+      good = good-table s (t .0) (t .1);
+      new = q;
+      small = omega (arith, leb-true n 65_535 (a .0));
+      fits = omega (arith, leb-true n (length s - 32) (b .0));
+      zeros = ap (λ (k : ℕ). allZero (take (length bytes + 18) (drop (length s - 32 - k) s))) (sym q) ∙ d .0;
+    }

@@ -1,0 +1,29 @@
+use mathlib.Core.Path.{sym, ap, _∙_}
+use Rattle.guids.specs.Table.{findIn, toldTable}
+use Rattle.guids.proofs.Walk.{table-refused}
+use borrow.Author.Needs.{needs}
+use Rattle.guids.proofs.find.Statement.{statement}
+use Rattle.guids.proofs.find.Tie as tie
+
+table-requires : tie.Need-table-requires
+table-requires c κs = search needs
+
+enum-known-t : tie.Need-enum-known-t
+enum-known-t c = search needs
+
+find-in-requires : tie.Need-find-in-requires
+find-in-requires c κs = sym (c .before .before .before .table .ensures) ∙ ap toldTable (c .before .t .given .1)
+
+enum-known-why : tie.Need-enum-known-why
+enum-known-why c = search needs
+
+returns : tie.Need-returns
+returns c = search needs
+
+returns-2 : tie.Need-returns-2
+returns-2 c = table-refused _ (findIn (c .before .before .before .before .before .args .guid)) _ _ (sym (c .before .before .before .table .ensures) ∙ ap toldTable (c .before .why .given .1))
+
+pub find-spec : {M : Type 1} → statement M
+find-spec =
+    tie.close
+    (tie.spec table-requires enum-known-t find-in-requires enum-known-why returns returns-2)

@@ -1,0 +1,41 @@
+-- What a lookup finds, and which totals are accepted, as plain facts. Assumes nothing: these are statements.
+use Prim.Native.Nat.{ℕ, _-_, _<_, _≤_}
+use mathlib.Core.Path.{_≡_}
+use mathlib.Core.List.{List}
+use lib.ListN.{length, getD}
+use Rattle.reply.specs.Reply.{Carried, given, refused, alone, tested}
+use Rattle.guids.specs.declared.Guid.{Guid}
+use Rattle.guids.specs.declared.Entry.{Entry}
+use Rattle.guids.specs.declared.Match.{Match}
+use Rattle.guids.specs.Table.{guidAt, footer, totalAt, entriesOf, tableOf, noEntry, matchAt, findOf, entryOf}
+
+-- entry i is the first of the entries, nearest the footer, that has the GUID
+pub record FirstMatch (g : Guid) (entries : List Entry) (i : ℕ) : Type 0 where
+  pub inside : i < length entries
+  pub here : getD entries i noEntry .guid ≡ g
+  pub earlier : (j : ℕ) → j < i → getD entries j noEntry .guid ≡ g → ⊥
+
+-- no entry has the GUID
+abbrev pub NoMatch : Guid → List Entry → Type 0
+NoMatch g entries = (j : ℕ) → j < length entries → getD entries j noEntry .guid ≡ g → ⊥
+
+-- a lookup gives the first match and i + 1 entries tested, or 8 with the number of entries, and nothing else; a table that is refused refuses it
+pub record FirstMatchFound : Type 0 where
+  pub found : (s : List ℕ) (entries : List Entry) (g : Guid) (i : ℕ) → entriesOf s ≡ given entries → FirstMatch g entries i → findOf s g ≡ given (matchAt entries i)
+  pub absent : (s : List ℕ) (entries : List Entry) (g : Guid) → entriesOf s ≡ given entries → NoMatch g entries → findOf s g ≡ refused 8 (tested (length entries))
+  pub found-only : (s : List ℕ) (entries : List Entry) (g : Guid) (m : Match) → entriesOf s ≡ given entries → findOf s g ≡ given m →
+      (i : ℕ) × FirstMatch g entries i × (m ≡ matchAt entries i)
+  pub absent-only : (s : List ℕ) (entries : List Entry) (g : Guid) (w : ℕ) (c : Carried) → entriesOf s ≡ given entries → findOf s g ≡ refused w c →
+      NoMatch g entries × (w ≡ 8) × (c ≡ tested (length entries))
+  pub checked : (s : List ℕ) (g : Guid) (w : ℕ) (c : Carried) → entriesOf s ≡ refused w c → findOf s g ≡ refused w c
+
+-- entry i is given where there are more entries than i, else 8 alone; a table that is refused refuses it
+pub record EntryGiven : Type 0 where
+  pub inside : (s : List ℕ) (entries : List Entry) (i : ℕ) → entriesOf s ≡ given entries → i < length entries → entryOf s i ≡ given (getD entries i noEntry)
+  pub behind : (s : List ℕ) (entries : List Entry) (i : ℕ) → entriesOf s ≡ given entries → length entries ≤ i → entryOf s i ≡ refused 8 alone
+  pub checked : (s : List ℕ) (i w : ℕ) (c : Carried) → entriesOf s ≡ refused w c → entryOf s i ≡ refused w c
+
+-- where the footer stands, a total of 18 is accepted and has no entries (M9), and a total below, as 17 (M10), is refused with 3
+pub record LeastTotal : Type 0 where
+  pub M9 : (s : List ℕ) → 50 ≤ length s → guidAt s (length s - 48) ≡ footer → totalAt s ≡ 18 → tableOf s ≡ given (record { total = 18; entries = 0 })
+  pub M10 : (s : List ℕ) → 50 ≤ length s → guidAt s (length s - 48) ≡ footer → totalAt s < 18 → tableOf s ≡ refused 3 alone

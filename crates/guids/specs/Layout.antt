@@ -1,0 +1,70 @@
+-- How the bytes of a GUID table lie in an image; and that a table is given exactly where they lie so. Assumes nothing: definitions and statements.
+use Prim.Native.Nat.{ℕ, _+_, _^_, _<_, _≤_}
+use mathlib.Core.Path.{_≡_}
+use mathlib.Core.List.{List, [], _∷_, _++_, map}
+use lib.ListN.{length, getD, take, drop}
+use Rattle.reply.specs.Reply.{Reply, given, then}
+use Rattle.guids.specs.declared.Guid.{Guid}
+use Rattle.guids.specs.declared.Entry.{Entry}
+use Rattle.guids.specs.Table.{footer, entriesOf}
+use Rattle.guids.specs.Write.{endBytes, entryBytes}
+
+-- what an entry holds: its GUID, and its data
+pub record Item : Type 0 where
+  pub guid : Guid
+  pub bytes : List ℕ
+
+-- the bytes of the entries, the first item nearest the footer
+unfoldable pub itemsBytes : List Item → List ℕ
+itemsBytes [] = []
+itemsBytes (i ∷ others) = itemsBytes others ++ entryBytes (i .guid) (i .bytes)
+
+-- the total counts the entries, itself and the footer
+abbrev pub totalOf : List Item → ℕ
+totalOf items = length (itemsBytes items) + 18
+
+-- an image: what stands before the table, the entries, the total with the footer, and what stands behind the table
+abbrev pub imageOf : List ℕ → List Item → List ℕ → List ℕ
+imageOf front items back = front ++ (itemsBytes items ++ (endBytes (totalOf items) footer ++ back))
+
+-- a GUID is one of sixteen bytes
+pub record Sixteen (g : Guid) : Type 0 where
+  pub low : g .low < 2 ^ 64
+  pub high : g .high < 2 ^ 64
+
+-- each item's GUID is
+abbrev pub Whole : List Item → Type 0
+Whole [] = Unit {0}
+Whole (i ∷ others) = Sixteen (i .guid) × Whole others
+
+-- the items lie in the image s as a table of at most 65,535 bytes that ends 32 bytes before the image's end
+pub record Laid (s : List ℕ) (items : List Item) : Type 0 where
+  pub front : List ℕ
+  pub back : List ℕ
+  pub is : s ≡ imageOf front items back
+  pub behind : length back ≡ 32
+  pub small : totalOf items ≤ 65_535
+  pub whole : Whole items
+
+-- the entries of items whose bytes begin at place o
+unfoldable pub entriesAt : ℕ → List Item → List Entry
+entriesAt o [] = []
+entriesAt o (i ∷ others) = record { guid = i .guid; place = o + length (itemsBytes others); length = length (i .bytes) } ∷ entriesAt o others
+
+-- what an entry of the image s holds
+abbrev pub itemOf : List ℕ → Entry → Item
+itemOf s e = record { guid = e .guid; bytes = take (e .length) (drop (e .place) s) }
+
+-- what the table's entries hold, nearest the footer first
+abbrev pub itemsOf : List ℕ → Reply (List Item)
+itemsOf s = then (entriesOf s) (λ entries. given (map (itemOf s) entries))
+
+-- every number of a list of bytes is below 256
+abbrev pub Bytes : List ℕ → Type 0
+Bytes s = (i : ℕ) → getD s i 0 < 256
+
+-- a table is given exactly where its items lie in the image; its entries are theirs, and hold them
+pub record TableAcceptance : Type 0 where
+  pub only : (s : List ℕ) (items : List Item) → Bytes s → itemsOf s ≡ given items → Laid s items
+  pub all : (s : List ℕ) (items : List Item) → Laid s items → itemsOf s ≡ given items
+  pub entries : (s : List ℕ) (items : List Item) → (l : Laid s items) → entriesOf s ≡ given (entriesAt (length (l .front)) items)

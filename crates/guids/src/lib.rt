@@ -1,0 +1,331 @@
+// The GUID table at the end of a guest firmware image: read, looked up, started and extended.
+ghost use mathlib.Core.Path.{_≡_};
+ghost use Prim.Native.Nat.{_+_, _-_, _<_, _≤_};
+ghost use lib.ListN.{length};
+ghost use Rattle.reply.specs.Reply.{given, then};
+ghost use Rattle.le.specs.Le.{leAt, putBytes};
+ghost use Rattle.guids.specs.Table.{guidAt, sameGuid, footer, headerOf, lengthBefore, entryBefore, entriesUnder, totalsOf, tableOf, findOf, entryOf, toldTotal, toldTable, toldLookup, toldEntry};
+ghost use Rattle.guids.specs.Write.{endBytes, startOf, startedBy, allZero, roomFor, extendOf, extendedBy};
+use reply::Refusal;
+
+// A GUID: its sixteen bytes in memory are those of `low`, then those of `high`, lowest first.
+pub struct Guid {
+    pub low: u64,
+    pub high: u64,
+}
+
+impl Guid {
+    // 96b582de-1fb2-45f7-baea-a366c55a082d
+    pub const FOOTER: Guid = Guid {
+        low: 0x45f7_1fb2_96b5_82de,
+        high: 0x2d08_5ac5_66a3_eaba,
+    };
+}
+
+// An entry: its GUID, and where in the image its data begins and how many bytes it has.
+pub struct Entry {
+    pub guid: Guid,
+    pub place: usize,
+    pub length: usize,
+}
+
+// A table's total, in bytes, and the number of its entries.
+pub struct Totals {
+    pub total: u32,
+    pub entries: u32,
+}
+
+// A lookup's match: its data's place and length, and the number of entries tested.
+pub struct Match {
+    pub place: usize,
+    pub length: usize,
+    pub tested: u32,
+}
+
+// A table's total, as read or as a start or an extend leaves it, or why there is none.
+pub enum Total {
+    Given(u32),
+    Refused(Refusal),
+}
+
+// What a check of a table answers.
+pub enum Checked {
+    Given(Totals),
+    Refused(Refusal),
+}
+
+// What the entry at a position is, or why there is none.
+pub enum Read {
+    Given(Entry),
+    Refused(Refusal),
+}
+
+// What a lookup answers: the match, no such entry among so many tested, or why the table is refused.
+pub enum Lookup {
+    Given(Match),
+    Absent(u32),
+    Refused(Refusal),
+}
+
+// The GUID whose sixteen bytes lie at a place.
+fn guid_at(image: &[u8], at: usize) -> Guid
+    requires { ⌜ at + 16 ≤ length (now image) ⌝ }
+    ensures { λ r. ⌜ r ≡ guidAt (now (image .entry)) at ⌝ }
+{
+    Guid {
+        low: le::u64_at(image, at),
+        high: le::u64_at(image, at + 8),
+    }
+}
+
+// Are two GUIDs the same?
+fn same(a: Guid, b: Guid) -> bool
+    ensures { λ r. ⌜ r ≡ sameGuid a b ⌝ }
+{
+    if a.low == b.low {
+        a.high == b.high
+    } else {
+        false
+    }
+}
+
+// The checks before the entries: the table's total.
+fn header(image: &[u8]) -> Total
+    ensures { λ r. ⌜ toldTotal r ≡ headerOf (now (image .entry)) ⌝ }
+{
+    if image.len() < 50 {
+        return Total::Refused(Refusal::SHORT);
+    }
+    if same(guid_at(image, image.len() - 48), Guid::FOOTER) {
+        let total = le::u16_at(image, image.len() - 50);
+        if total < 18 {
+            return Total::Refused(Refusal::LIMITS);
+        }
+        if image.len() - 32 < total as usize {
+            return Total::Refused(Refusal::LIMITS);
+        }
+        Total::Given(total as u32)
+    } else {
+        Total::Refused(Refusal::SIGNATURE)
+    }
+}
+
+// The length of the entry that ends at a place, where `left` bytes are left.
+fn length_before(image: &[u8], end: usize, left: usize) -> Total
+    requires { ⌜ left ≤ end ⌝ }
+    ensures { λ r. ⌜ toldTotal r ≡ lengthBefore (now (image .entry)) end left ⌝ }
+{
+    if left < 18 {
+        return Total::Refused(Refusal::STRUCTURE);
+    }
+    let length = le::u16_at(image, end - 18);
+    if length < 18 {
+        return Total::Refused(Refusal::STRUCTURE);
+    }
+    if left < length as usize {
+        return Total::Refused(Refusal::STRUCTURE);
+    }
+    Total::Given(length as u32)
+}
+
+// Checks and counts the entries of a table of this total, backwards from the footer.
+fn counted(image: &[u8], total: u32) -> Checked
+    requires { ⌜ headerOf (now image) ≡ given total ⌝ }
+    ensures { λ r. ⌜ toldTable r ≡ then (entriesUnder (now (image .entry)) total) (totalsOf (now (image .entry))) ⌝ }
+{
+    let mut end = image.len() - 50;
+    let mut left = (total as usize) - 18;
+    let mut count: u32 = 0;
+    while 0 < left {
+        match length_before(image, end, left) {
+            Total::Given(length) => {
+                end -= length as usize;
+                left -= length as usize;
+                count += 1;
+            }
+            Total::Refused(why) => return Checked::Refused(why),
+        }
+    }
+    Checked::Given(Totals {
+        total: total,
+        entries: count,
+    })
+}
+
+// Checks a table: its total, and the number of its entries.
+pub fn table(image: &[u8]) -> Checked
+    ensures { λ r. ⌜ toldTable r ≡ tableOf (now (image .entry)) ⌝ }
+{
+    match header(image) {
+        Total::Given(total) => counted(image, total),
+        Total::Refused(why) => Checked::Refused(why),
+    }
+}
+
+// The entry that ends at a place of a checked table.
+fn entry_before(image: &[u8], end: usize) -> Entry
+    requires { ⌜ (end ≤ length (now image)) × (18 ≤ leAt 2 (now image) (end - 18)) × (leAt 2 (now image) (end - 18) ≤ end) ⌝ }
+    ensures { λ r. ⌜ r ≡ entryBefore (now (image .entry)) end (leAt 2 (now (image .entry)) (end - 18)) ⌝ }
+{
+    let length = le::u16_at(image, end - 18) as usize;
+    Entry {
+        guid: guid_at(image, end - 16),
+        place: end - length,
+        length: length - 18,
+    }
+}
+
+// The first entry of a checked table that has the GUID, nearest the footer first.
+fn find_in(image: &[u8], t: Totals, guid: Guid) -> Lookup
+    requires { ⌜ tableOf (now image) ≡ given t ⌝ }
+    ensures { λ r. ⌜ toldLookup r ≡ findOf (now (image .entry)) guid ⌝ }
+{
+    let mut end = image.len() - 50;
+    let mut before: u32 = 0;
+    while before < t.entries {
+        let entry = entry_before(image, end);
+        if same(entry.guid, guid) {
+            return Lookup::Given(Match {
+                place: entry.place,
+                length: entry.length,
+                tested: before + 1,
+            });
+        }
+        end = entry.place;
+        before += 1;
+    }
+    Lookup::Absent(before)
+}
+
+// Looks a GUID up, nearest the footer first: its data's place and length, and the number of entries tested.
+pub fn find(image: &[u8], guid: Guid) -> Lookup
+    ensures { λ r. ⌜ toldLookup r ≡ findOf (now (image .entry)) guid ⌝ }
+{
+    match table(image) {
+        Checked::Given(t) => find_in(image, t, guid),
+        Checked::Refused(why) => Lookup::Refused(why),
+    }
+}
+
+// Entry i of a checked table, counted from the footer.
+fn entry_in(image: &[u8], t: Totals, i: usize) -> Read
+    requires { ⌜ tableOf (now image) ≡ given t ⌝ }
+    ensures { λ r. ⌜ toldEntry r ≡ entryOf (now (image .entry)) i ⌝ }
+{
+    if t.entries as usize <= i {
+        return Read::Refused(Refusal::ABSENT);
+    }
+    let mut end = image.len() - 50;
+    let mut before: usize = 0;
+    while before < i {
+        let entry = entry_before(image, end);
+        end = entry.place;
+        before += 1;
+    }
+    Read::Given(entry_before(image, end))
+}
+
+// The entry at position i, counted from the footer.
+pub fn entry_at(image: &[u8], i: usize) -> Read
+    ensures { λ r. ⌜ toldEntry r ≡ entryOf (now (image .entry)) i ⌝ }
+{
+    match table(image) {
+        Checked::Given(t) => entry_in(image, t, i),
+        Checked::Refused(why) => Read::Refused(why),
+    }
+}
+
+// Writes what the table and each entry end with: a length in two bytes, and a GUID.
+fn put_end(buf: &mut [u8], at: usize, size: u16, guid: Guid)
+    requires { ⌜ at + 18 ≤ length (now buf) ⌝ }
+    ensures { λ _. ⌜ now (buf .exit) ≡ putBytes (endBytes size guid) (now (buf .entry)) at ⌝ }
+{
+    le::put16(buf, at, size);
+    le::put64(buf, at + 2, guid.low);
+    le::put64(buf, at + 10, guid.high);
+}
+
+// Starts a table with no entries: the footer and the total, 18, are written and nothing else.
+pub fn start(buf: &mut [u8]) -> Total
+    ensures { λ r. ⌜ toldTotal r ≡ startOf (now (buf .entry)) ⌝ }
+    ensures { λ _. ⌜ now (buf .exit) ≡ startedBy (now (buf .entry)) (startOf (now (buf .entry))) ⌝ }
+{
+    if buf.len() < 50 {
+        return Total::Refused(Refusal::ROOM);
+    }
+    let at = buf.len() - 50;
+    put_end(buf, at, 18, Guid::FOOTER);
+    Total::Given(18)
+}
+
+// Are all bytes zero?
+fn all_zero(bytes: &[u8]) -> bool
+    ensures { λ r. ⌜ r ≡ allZero (now (bytes .entry)) ⌝ }
+{
+    let mut i: usize = 0;
+    while i < bytes.len() {
+        if bytes[i] != 0 {
+            return false;
+        }
+        i += 1;
+    }
+    true
+}
+
+// Has a good table room for an entry of `more` bytes that brings it to this total?
+fn room_for(buf: &[u8], more: usize, total: usize) -> Total
+    requires { ⌜ (more ≤ total) × (32 ≤ length (now buf)) ⌝ }
+    ensures { λ r. ⌜ toldTotal r ≡ roomFor (now (buf .entry)) more total ⌝ }
+{
+    if 65535 < total {
+        return Total::Refused(Refusal::LIMITS);
+    }
+    if buf.len() - 32 < total {
+        return Total::Refused(Refusal::ROOM);
+    }
+    let from = buf.len() - 32 - total;
+    if all_zero(&buf[from..from + more]) {
+        Total::Given(total as u32)
+    } else {
+        Total::Refused(Refusal::WRITTEN)
+    }
+}
+
+// What an extend with these data bytes answers, and nothing is written: the new total.
+pub fn admit(buf: &[u8], bytes: &[u8]) -> Total
+    ensures { λ r. ⌜ toldTotal r ≡ extendOf (now (buf .entry)) (now (bytes .entry)) ⌝ }
+{
+    match table(buf) {
+        Checked::Given(t) => {
+            let more = bytes.len() + 18;
+            room_for(buf, more, t.total as usize + more)
+        }
+        Checked::Refused(why) => Total::Refused(why),
+    }
+}
+
+// Writes the new total, and the entry at the table's far end.
+fn append(buf: &mut [u8], total: u32, guid: Guid, bytes: &[u8])
+    requires { ⌜ extendOf (now buf) (now bytes) ≡ given total ⌝ }
+    ensures { λ _. ⌜ now (buf .exit) ≡ extendedBy (now (buf .entry)) guid (now (bytes .entry)) (given total) ⌝ }
+{
+    let from = buf.len() - 32 - total as usize;
+    let behind = from + bytes.len();
+    le::put16(buf, buf.len() - 50, total as u16);
+    le::put_bytes(buf, from, bytes);
+    put_end(buf, behind, (bytes.len() + 18) as u16, guid);
+}
+
+// Extends a table by an entry with this GUID and these data bytes, farthest from the footer: the new total.
+pub fn extend(buf: &mut [u8], guid: Guid, bytes: &[u8]) -> Total
+    ensures { λ r. ⌜ toldTotal r ≡ extendOf (now (buf .entry)) (now (bytes .entry)) ⌝ }
+    ensures { λ _. ⌜ now (buf .exit) ≡ extendedBy (now (buf .entry)) guid (now (bytes .entry)) (extendOf (now (buf .entry)) (now (bytes .entry))) ⌝ }
+{
+    match admit(buf, bytes) {
+        Total::Given(total) => {
+            append(buf, total, guid, bytes);
+            Total::Given(total)
+        }
+        Total::Refused(why) => Total::Refused(why),
+    }
+}

@@ -1,0 +1,32 @@
+-- How what the calls on a flash image give is laid out in lent words. Assumes nothing: these are definitions.
+use Prim.Native.Nat.{ℕ}
+use mathlib.Core.List.{List, [], _∷_}
+use Rattle.directory.specs.declared.Directory.{Directory}
+use Rattle.directory.specs.declared.Entry.{Entry}
+use Rattle.directory.specs.declared.Match.{Match}
+use Rattle.directory.specs.declared.Part.{Part}
+use Rattle.walk.specs.declared.Found.{Found}
+
+-- a directory: its place, level and total
+abbrev pub layDirectory : Directory → List ℕ
+layDirectory d = d .place .0 ∷ d .level ∷ d .total ∷ []
+
+-- an entry: its type, subprogram, size, location and mode
+abbrev pub layEntry : Entry → List ℕ
+layEntry e = e .class ∷ e .subprogram ∷ e .size ∷ e .location ∷ e .mode ∷ []
+
+-- a part: where it begins, and its length
+abbrev pub layPart : Part → List ℕ
+layPart p = p .place ∷ p .length ∷ []
+
+-- a match in a directory: its index, and how many entries were tested
+abbrev pub layMatch : Match → List ℕ
+layMatch m = m .index ∷ m .tested ∷ []
+
+-- a match in the whole image: its directory's place and level, its index, and how many entries were tested
+abbrev pub layFound : Found → List ℕ
+layFound f = f .place .0 ∷ f .level ∷ f .index ∷ f .tested ∷ []
+
+-- a view of a directory: the place where the directory begins
+abbrev pub layPlace : Directory → List ℕ
+layPlace d = d .place .0 ∷ []

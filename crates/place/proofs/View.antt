@@ -1,0 +1,138 @@
+-- The directory at a place is given exactly where it is good, a view of a level answers as the calls on that level do, and bytes are a part of the image. Assumes nothing.
+use mathlib.Core.Path.{_≡_, refl, sym, ap, subst, _∙_}
+use mathlib.Core.Logic.{_⊎_, inl, inr}
+use mathlib.Core.List.{List}
+use mathlib.Core.Bool.{not}
+use Prim.Native.Nat.{ℕ, _+_, _≤_}
+use native.Mathlib.Omega.{arith}
+use borrow.Author.Tests.{le-leb}
+use lib.ListN.{length}
+use lib.Dec.{leb, eqb}
+use Rattle.reply.specs.Reply.{Reply, Carried, given, refused, alone, then}
+use Rattle.reply.proofs.ReplyLaws.{past, passed, then-given}
+use Rattle.directory.specs.Directory.{directoryAt, directoryByCookie}
+use Rattle.directory.specs.Entry.{entryIn, leadIn}
+use Rattle.directory.specs.Part.{leadsTo, rangedAt, partOf, partIn, bytesOf, beginOf}
+use Rattle.directory.specs.declared.Directory.{Directory}
+use Rattle.directory.specs.declared.Entry.{Entry}
+use Rattle.directory.specs.declared.Part.{Part}
+use Rattle.directory.proofs.Accept.{only-good, cookie-acceptance}
+use Rattle.directory.proofs.Parts.{part-inside}
+use Rattle.flash.specs.Efs.{rootOf}
+use Rattle.flash.specs.Good.{GoodLength}
+use Rattle.flash.specs.Flash.{Reading, base, flashDirectory, flashPart}
+use Rattle.flash.proofs.Ways.{sized-passed, sized-past, Opened, one, two, opened}
+use Rattle.place.specs.Place.{placedAt, entryAt, partAt, heldBytes, heldPlace, viewImage, viewPlace, partThrough}
+use Rattle.place.specs.View.{GoodPlace, PlaceAcceptance, SameThroughView, ViewOfLevel, PartOfImage}
+
+module _ (r : Reading) (s : List ℕ) where
+  only-place : (place : ℕ) (d : Directory) → placedAt r s place ≡ given d → GoodPlace r s place d
+  unfolding placedAt
+  only-place place d e =
+      let z = sized-past s _ e in
+      let g = past (leb place (length s)) _ _ _ (z .1) in
+      let h = cookie-acceptance .only (r .kind) (r .limit) s place d (g .1) in
+      record { long = z .0; good = h .0; here = h .1; level = h .2 }
+
+  all-place : (place : ℕ) (d : Directory) → (r .kind .one ≡ r .kind .two → ⊥) → GoodPlace r s place d → placedAt r s place ≡ given d
+  unfolding placedAt
+  all-place place d apart g =
+      let p = g .good .present in
+      let h = g .here in
+      let within : place ≤ length s = omega arith in
+      sized-passed s _ (g .long)
+      ∙ (passed _ _ _ _ (le-leb _ _ within)
+      ∙ (ap (directoryByCookie (r .kind) (r .limit) s) (sym h) ∙ cookie-acceptance .all (r .kind) (r .limit) s d apart (g .good) (g .level)))
+
+  -- a directory that a level leads to is good, at its own place
+  good-opened : (level : ℕ) (d : Directory) → flashDirectory r level s ≡ given d → GoodPlace r s (d .place .0) d
+  good-opened level d e = let w = opened r s d level e in by (w .0) (w .1)
+    where
+      at : (l o : ℕ) → GoodLength s → directoryAt (r .kind) (r .limit) l s o ≡ given d → (l ≡ 1) ⊎ (l ≡ 2) → GoodPlace r s (d .place .0) d
+      at l o z e w =
+          let g = only-good (r .kind) l s (r .limit) o d e in
+          record { long = z; good = g .0; here = refl; level = subst (λ (n : ℕ). (n ≡ 1) ⊎ (n ≡ 2)) (sym (g .2)) w }
+
+      by : {level : ℕ} → GoodLength s → Opened r s d level → GoodPlace r s (d .place .0) d
+      by z (one e) = let t = then-given (rootOf (r .window) (r .candidates) s) _ e in at 1 (t .0 .0) z (t .2) (inl refl)
+      by z (two above e h) =
+          let t = then-given (leadIn (r .kind) s above) _ h in
+          let u = then-given (leadsTo (r .window) s (above .place .0) (t .0)) _ (t .2) in
+          at 2 (u .0) z (u .2) (inr refl)
+
+pub place-acceptance : PlaceAcceptance
+place-acceptance = record { only = only-place; all = all-place }
+
+module _ (r : Reading) (apart : r .kind .one ≡ r .kind .two → ⊥) (level : ℕ) (s : List ℕ) where
+  -- a directory of the level, asked for again at its place
+  kept : (d : Directory) → flashDirectory r level s ≡ given d → placedAt r s (d .place .0) ≡ given d
+  kept d e = all-place r s (d .place .0) d apart (good-opened r s level d e)
+
+  same : (d : Directory) → flashDirectory r level s ≡ given d → placedAt r (viewImage r level s) (viewPlace r level s) ≡ given d
+  same d e = rw e (kept d e)
+
+  -- whatever is asked of it next
+  same-next : {B : Type 0} (next : List ℕ → Directory → Reply B) (d : Directory) → flashDirectory r level s ≡ given d →
+      then (placedAt r (viewImage r level s) (viewPlace r level s)) (next (viewImage r level s)) ≡ then (flashDirectory r level s) (next s)
+  same-next next d e = rw (e, kept d e)
+
+  none-15 : (number : ℕ) (carried : Carried) → flashDirectory r level s ≡ refused number carried → placedAt r (viewImage r level s) (viewPlace r level s) ≡ refused 15 alone
+  unfolding placedAt
+  none-15 number carried e = rw e
+
+  next-15 : {B : Type 0} (next : List ℕ → Directory → Reply B) (number : ℕ) (carried : Carried) → flashDirectory r level s ≡ refused number carried →
+      then (placedAt r (viewImage r level s) (viewPlace r level s)) (next (viewImage r level s)) ≡ refused 15 alone
+  next-15 next number carried e = ap (λ (x : Reply Directory). then x (next (viewImage r level s))) (none-15 number carried e)
+
+  -- of an entry's bytes nothing is left where they are refused, by the one number or the other
+  module _ (i : ℕ) where
+    same-bytes : (q : Reply Directory) → flashDirectory r level s ≡ q → bytesOf (viewImage r level s) (partThrough r level s i) ≡ bytesOf s (flashPart r level s i)
+    unfolding placedAt
+    same-bytes (given d) e = ap (λ (x : Reply Part). bytesOf (viewImage r level s) x) (same-next (λ x d. partIn (r .kind) (r .window) x d i) d e) ∙ rw e
+    same-bytes (refused number carried) e = rw e
+
+    same-begin : (at : ℕ × ℕ) (q : Reply Directory) → flashDirectory r level s ≡ q → beginOf at (partThrough r level s i) ≡ beginOf at (flashPart r level s i)
+    unfolding placedAt
+    same-begin at (given d) e = ap (beginOf at) (same-next (λ x d. partIn (r .kind) (r .window) x d i) d e)
+    same-begin at (refused number carried) e = rw e
+
+through-view : (r : Reading) → (r .kind .one ≡ r .kind .two → ⊥) → SameThroughView r
+through-view r apart = record {
+  directory = same r apart;
+  entry = λ level s d i. same-next r apart level s (λ x d. entryIn (r .kind) x d i) d;
+  part = λ level s d i. same-next r apart level s (λ x d. partIn (r .kind) (r .window) x d i) d;
+  bytes = λ level s i. same-bytes r apart level s i (flashDirectory r level s) refl;
+  begin = λ level s i at. same-begin r apart level s i at (flashDirectory r level s) refl;
+  none = λ level s number carried e. (ap (heldBytes s) e, ap heldPlace e);
+  directory-15 = none-15 r apart;
+  entry-15 = λ level s i. next-15 r apart level s (λ x d. entryIn (r .kind) x d i);
+  part-15 = λ level s i. next-15 r apart level s (λ x d. partIn (r .kind) (r .window) x d i);
+}
+
+pub view-of-level : ViewOfLevel
+view-of-level = record { every = through-view; document = through-view base (λ e. omega arith) }
+
+module _ (r : Reading) (s : List ℕ) (place i : ℕ) where
+  inside : (p : Part) → partAt r s place i ≡ given p → p .place + p .length ≤ length s
+  inside p e = let t = then-given (placedAt r s place) _ e in part-inside (r .kind) (r .window) s (t .0) i p (t .2)
+
+  size : (e : Entry) (p : Part) → entryAt r s place i ≡ given e → partAt r s place i ≡ given p → p .length ≡ e .size
+  unfolding partOf rangedAt
+  size e p a b =
+      let t = then-given (placedAt r s place) _ a in
+      let d = t .0 in
+      let h : partIn (r .kind) (r .window) s d i ≡ given p = ap (λ (x : Reply Directory). then x (λ d. partIn (r .kind) (r .window) s d i)) (sym (t .1)) ∙ b in
+      let g : partOf (r .kind) (r .window) s (d .place .0) e ≡ given p = ap (λ (x : Reply Entry). then x (partOf (r .kind) (r .window) s (d .place .0))) (sym (t .2)) ∙ h in
+      let v = past (not (eqb (e .class) (r .kind .value))) _ _ _ g in
+      let u = then-given (leadsTo (r .window) s (d .place .0) e) (rangedAt s (e .size)) (v .1) in
+      let w = past (leb (u .0 + e .size) (length s)) _ _ _ (u .2) in
+      cc (w .1)
+
+pub part-of-image : PartOfImage
+part-of-image = record {
+  inside = inside;
+  size = size;
+  bytes = λ r s place i p e. ap (bytesOf s) e;
+  begin = λ r s place i p at e. ap (beginOf at) e;
+  none = λ r s place i number carried e. ap (bytesOf s) e;
+}

@@ -1,0 +1,3 @@
+pub mod Results
+pub mod Taken
+pub mod Through

@@ -1,0 +1,77 @@
+-- The checks of a directory refuse with a number alone. Assumes nothing.
+use mathlib.Core.Path.{_≡_, refl, sym}
+use mathlib.Core.List.{List}
+use mathlib.Core.Bool.{Bool, true, false, not, cond}
+use Prim.Native.Nat.{ℕ, zero, suc, _+_, _-_}
+use native.Mathlib.Omega.{arith}
+use lib.ListN.{length}
+use lib.Dec.{leb, eqb}
+use Rattle.le.specs.Le.{leAt}
+use Rattle.reply.specs.Reply.{Reply, Carried, given, refused, alone, guard, then}
+use Rattle.reply.specs.Scan.{scan}
+use Rattle.reply.proofs.ReplyLaws.{clash}
+use Rattle.window.specs.Window.{offsetIn}
+use Rattle.window.specs.declared.Offset.{Offset}
+use Rattle.directory.specs.Directory.{cookieOf, totalAt, entryPlace, checksumAt, reservedZero, wellPlaced, entryStep, directoryOf, entriesAt, directoryAt}
+use Rattle.directory.specs.Part.{within, leadsTo}
+use Rattle.directory.specs.declared.Kind.{Kind}
+use Rattle.directory.specs.declared.Directory.{Directory}
+use Rattle.directory.specs.declared.Entry.{Entry}
+use Rattle.flash.specs.Flash.{levelTwoAt}
+
+-- if refused, then with a number alone
+abbrev pub Alone : {A : Type 0} → Reply A → Type 0
+Alone r = (number : ℕ) (carried : Carried) → r ≡ refused number carried → carried ≡ alone
+
+given-alone : {A : Type 0} (a : A) → Alone (given a)
+given-alone a number carried e = clash (sym e)
+
+guard-alone : {A : Type 0} (b : Bool) (n : ℕ) (rest : Reply A) → Alone rest → Alone (guard b n rest)
+guard-alone true n rest h = h
+guard-alone false n rest h = λ number carried e. cc
+
+cond-alone : {A : Type 0} (b : Bool) (x y : Reply A) → Alone x → Alone y → Alone (cond b x y)
+cond-alone true x y f g = f
+cond-alone false x y f g = g
+
+then-alone : {A B : Type 0} (r : Reply A) (next : A → Reply B) → Alone r → ((a : A) → Alone (next a)) → Alone (then r next)
+then-alone (given a) next f g = g a
+then-alone (refused n c) next f g = λ number carried e. let q : c ≡ alone = f n c refl in cc
+
+scan-alone : {A : Type 0} (step : ℕ → Reply A → Reply A) (last : ℕ → Reply A) → ((i : ℕ) (rest : Reply A) → Alone rest → Alone (step i rest)) → ((i : ℕ) → Alone (last i)) → (m i : ℕ) → Alone (scan step last m i)
+unfolding scan
+scan-alone step last f g zero i = g i
+scan-alone step last f g (suc m) i = f i _ (scan-alone step last f g m (i + 1))
+
+module _ (kind : Kind) (limit level : ℕ) (s : List ℕ) (o : ℕ) where
+  directory-alone : Alone (directoryAt kind limit level s o)
+  unfolding directoryAt
+  directory-alone =
+      let n = totalAt s o in
+      guard-alone (leb (o + 16) (length s)) _ _
+      (guard-alone (eqb (leAt 4 s o) (cookieOf kind level)) _ _
+      (guard-alone (leb n limit) _ _
+      (guard-alone (leb (entryPlace kind o n) (length s)) _ _
+      (guard-alone (eqb (leAt 4 s (o + 4)) (checksumAt kind s o n)) _ _
+      (guard-alone (eqb (leAt 4 s (o + 12)) 0) _ _
+      (scan-alone (entryStep kind level s o) (λ _. given (directoryOf o level n))
+      (λ i rest h. guard-alone (reservedZero kind s (entryPlace kind o i)) _ _ (guard-alone (wellPlaced kind level s (entryPlace kind o i)) _ _ h))
+      (λ i. given-alone _) n 0))))))
+
+module _ (window : ℕ) (s : List ℕ) (o : ℕ) (e : Entry) where
+  within-alone : (x : ℕ) → Alone (within s x)
+  unfolding within
+  within-alone x = guard-alone (leb x (length s)) _ _ (given-alone x)
+
+  lead-alone : Alone (leadsTo window s o e)
+  unfolding leadsTo offsetIn
+  lead-alone =
+      guard-alone (not (eqb (e .mode) 3)) _ _
+      (cond-alone (eqb (e .mode) 0) _ _
+      (then-alone (offsetIn window (e .location)) (λ a. within s (a .0))
+      (guard-alone (leb (0x1_0000_0000 - window) (e .location)) _ _ (guard-alone (leb (e .location) 0xFFFF_FFFF) _ _ (given-alone _)))
+      (λ a. within-alone (a .0)))
+      (cond-alone (eqb (e .mode) 1) _ _ (within-alone (e .location)) (within-alone (o + e .location))))
+
+pub level-alone : (kind : Kind) (limit window : ℕ) (s : List ℕ) (o : ℕ) (e : Entry) → Alone (levelTwoAt kind limit window s o e)
+level-alone kind limit window s o e = then-alone (leadsTo window s o e) (directoryAt kind limit 2 s) (lead-alone window s o e) (directory-alone kind limit 2 s)

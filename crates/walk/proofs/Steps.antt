@@ -1,0 +1,234 @@
+-- What the walk's proofs cite of its steps. Assumes nothing.
+use mathlib.Core.Path.{_≡_, refl, sym, ap, subst, _∙_}
+use mathlib.Core.List.{List, [], _∷_, _++_}
+use mathlib.Core.Bool.{Bool, true, false, cond}
+use Prim.Native.Nat.{ℕ, zero, suc, _+_, _-_, _<_, _≤_}
+use native.Mathlib.Nat.{pos-of-ne-zero}
+use native.Mathlib.Omega.{arith}
+use borrow.Author.Tests.{eqb-false}
+use lib.Dec.{eqb, eqb·suc-zero}
+use Rattle.reply.specs.Reply.{Reply, Carried, given, refused, alone, tested}
+use Rattle.reply.specs.declared.Refusal.{Refusal}
+use Rattle.reply.proofs.ReplyLaws.{clash, then-given}
+use Rattle.directory.specs.Directory.{directoryAt}
+use Rattle.directory.specs.Entry.{entryOf, entryIn, matchOf}
+use Rattle.directory.specs.Part.{leadsTo}
+use Rattle.directory.specs.declared.Kind.{Kind}
+use Rattle.directory.specs.declared.Directory.{Directory}
+use Rattle.directory.specs.declared.Entry.{Entry}
+use Rattle.directory.proofs.Accept.{acceptance, all-entry}
+use Rattle.flash.specs.Flash.{levelTwoAt}
+use Rattle.walk.specs.Walk.{Step, enter, test, fault, entriesFrom, walkedBy, belowOf, walkFrom, walkOf, firstIn}
+use Rattle.walk.specs.Probe.{entered, probed, probedBy, probeOf}
+use Rattle.walk.specs.First.{tests, matchIn}
+use Rattle.walk.specs.declared.Found.{Found}
+use Rattle.walk.specs.declared.Probe.{Probe}
+use Rattle.walk.specs.declared.Probe.the-variants as probe
+use Rattle.walk.proofs.Alone.{level-alone}
+
+-- each fault in some steps has a number alone
+pub Plain : List Step → Type 0
+Plain [] = Unit
+Plain (enter d ∷ steps) = Plain steps
+Plain (test d i ∷ steps) = Plain steps
+Plain (fault number carried ∷ steps) = (carried ≡ alone) × Plain steps
+
+plain-append : (xs ys : List Step) → Plain xs → Plain ys → Plain (xs ++ ys)
+unfolding Plain
+plain-append [] ys p q = q
+plain-append (enter d ∷ xs) ys p q = plain-append xs ys p q
+plain-append (test d i ∷ xs) ys p q = plain-append xs ys p q
+plain-append (fault number carried ∷ xs) ys p q = (p .0, plain-append xs ys (p .1) q)
+
+module _ (below : Entry → List Step) (kind : Kind) (s : List ℕ) (d : Directory) where
+  plain-entries : ((e : Entry) → Plain (below e)) → (m i : ℕ) → Plain (entriesFrom below kind s d m i)
+  unfolding Plain entriesFrom
+  plain-entries f zero i = tt
+  plain-entries f (suc m) i = plain-append (below (entryOf kind s d i)) (entriesFrom below kind s d m (i + 1)) (f (entryOf kind s d i)) (plain-entries f m (i + 1))
+
+module _ (kind : Kind) (limit window : ℕ) (s : List ℕ) where
+  plain-below : (depth : ℕ) (d : Directory) (e : Entry) → Plain (belowOf depth kind limit window s d e)
+  unfolding Plain belowOf
+  plain-below zero d e = tt
+  plain-below (suc depth) d e = by (eqb (e .class) (kind .lead)) (levelTwoAt kind limit window s (d .place .0) e) refl (λ n. plain-entries (belowOf depth kind limit window s n) kind s n (plain-below depth n) (n .total) 0)
+    where
+      by : (b : Bool) (r : Reply Directory) → levelTwoAt kind limit window s (d .place .0) e ≡ r → ((n : Directory) → Plain (walkFrom depth kind limit window s n (n .total) 0)) → Plain (cond b (walkedBy (walkOf depth kind limit window s) r) [])
+      by false r q f = tt
+      by true (given n) q f = f n
+      by true (refused number carried) q f = (level-alone kind limit window s (d .place .0) e number carried q, tt)
+
+  pub plain-walk : (depth : ℕ) (d : Directory) → Plain (walkOf depth kind limit window s d)
+  unfolding Plain
+  plain-walk depth d = plain-entries (belowOf depth kind limit window s d) kind s d (plain-below depth d) (d .total) 0
+
+-- the first match or fault in some steps, and what comes after them
+module _ (kind : Kind) (s : List ℕ) (type sub : ℕ) where
+  pub first-given : (xs ys : List Step) (t : ℕ) (f : Found) → firstIn kind s type sub xs t ≡ given f → firstIn kind s type sub (xs ++ ys) t ≡ given f
+  unfolding firstIn
+  first-given [] ys t f e = clash e
+  first-given (enter d ∷ xs) ys t f e = first-given xs ys t f e
+  first-given (test d i ∷ xs) ys t f e = by (matchOf (entryOf kind s d i) type sub) (first-given xs ys (t + 1) f) e
+    where
+      by : (b : Bool) → (firstIn kind s type sub xs (t + 1) ≡ given f → firstIn kind s type sub (xs ++ ys) (t + 1) ≡ given f) →
+          cond b (given (matchIn d i (t + 1))) (firstIn kind s type sub xs (t + 1)) ≡ given f → cond b (given (matchIn d i (t + 1))) (firstIn kind s type sub (xs ++ ys) (t + 1)) ≡ given f
+      by true h e = e
+      by false h e = h e
+  first-given (fault number carried ∷ xs) ys t f e = clash e
+
+  pub first-refused : (xs ys : List Step) (t n : ℕ) → firstIn kind s type sub xs t ≡ refused n alone → firstIn kind s type sub (xs ++ ys) t ≡ refused n alone
+  unfolding firstIn
+  first-refused [] ys t n e = absurd (let z : _≡_ {A = ℕ} 0 1 = cc in let f : ⊥ = omega arith in f)
+  first-refused (enter d ∷ xs) ys t n e = first-refused xs ys t n e
+  first-refused (test d i ∷ xs) ys t n e = by (matchOf (entryOf kind s d i) type sub) (first-refused xs ys (t + 1) n) e
+    where
+      by : (b : Bool) → (firstIn kind s type sub xs (t + 1) ≡ refused n alone → firstIn kind s type sub (xs ++ ys) (t + 1) ≡ refused n alone) →
+          cond b (given (matchIn d i (t + 1))) (firstIn kind s type sub xs (t + 1)) ≡ refused n alone → cond b (given (matchIn d i (t + 1))) (firstIn kind s type sub (xs ++ ys) (t + 1)) ≡ refused n alone
+      by true h e = clash (sym e)
+      by false h e = h e
+  first-refused (fault number carried ∷ xs) ys t n e = e
+
+  pub first-absent : (xs ys : List Step) → Plain xs → (t n u : ℕ) → firstIn kind s type sub xs t ≡ refused n (tested u) → (firstIn kind s type sub (xs ++ ys) t ≡ firstIn kind s type sub ys u) × (u ≡ t + tests xs)
+  unfolding firstIn tests Plain
+  first-absent [] ys p t n u e = let q : t ≡ u = cc in (ap (firstIn kind s type sub ys) q, omega arith)
+  first-absent (enter d ∷ xs) ys p t n u e = first-absent xs ys p t n u e
+  first-absent (test d i ∷ xs) ys p t n u e = by (matchOf (entryOf kind s d i) type sub) (first-absent xs ys p (t + 1) n u) e
+    where
+      by : (b : Bool) → (firstIn kind s type sub xs (t + 1) ≡ refused n (tested u) → (firstIn kind s type sub (xs ++ ys) (t + 1) ≡ firstIn kind s type sub ys u) × (u ≡ t + 1 + tests xs)) →
+          cond b (given (matchIn d i (t + 1))) (firstIn kind s type sub xs (t + 1)) ≡ refused n (tested u) →
+          (cond b (given (matchIn d i (t + 1))) (firstIn kind s type sub (xs ++ ys) (t + 1)) ≡ firstIn kind s type sub ys u) × (u ≡ t + (1 + tests xs))
+      by true h e = clash (sym e)
+      by false h e = let g = h e in (g .0, omega (arith, g .1))
+  first-absent (fault number carried ∷ xs) ys p t n u e = let a = p .0 in absurd (let z : _≡_ {A = ℕ} 0 1 = cc in let f : ⊥ = omega arith in f)
+
+-- with no level left below, one test for each entry
+pub last-tests : (kind : Kind) (limit window : ℕ) (s : List ℕ) (d : Directory) (m i : ℕ) → tests (walkFrom 0 kind limit window s d m i) ≡ m
+unfolding tests entriesFrom belowOf
+last-tests kind limit window s d zero i = refl
+last-tests kind limit window s d (suc m) i = let e = last-tests kind limit window s d m (i + 1) in omega arith
+
+-- no entries
+pub walk-none : (depth : ℕ) (kind : Kind) (limit window : ℕ) (s : List ℕ) (d : Directory) (type sub m i t : ℕ) → m ≡ 0 → refused 8 (tested t) ≡ firstIn kind s type sub (walkFrom depth kind limit window s d m i) t
+unfolding entriesFrom firstIn
+walk-none depth kind limit window s d type sub m i t e = rw e
+
+-- what a probe of entry i tells
+data Probed (depth : ℕ) (kind : Kind) (limit window : ℕ) (s : List ℕ) (d : Directory) (type sub : ℕ) (e : Entry) : Probe → Type 0 where
+  is-match : matchOf e type sub ≡ true → Probed depth kind limit window s d type sub e probe.Match
+  is-pass : matchOf e type sub ≡ false → belowOf depth kind limit window s d e ≡ [] → Probed depth kind limit window s d type sub e probe.Pass
+  is-enter : {n : Directory} → matchOf e type sub ≡ false → 0 < depth → n .total ≤ limit → belowOf depth kind limit window s d e ≡ walkOf (depth - 1) kind limit window s n → Probed depth kind limit window s d type sub e (probe.Enter n)
+  is-fault : {why : Refusal} → matchOf e type sub ≡ false → belowOf depth kind limit window s d e ≡ fault (why .number) alone ∷ [] → Probed depth kind limit window s d type sub e (probe.Refused why)
+
+probed-is : (depth : ℕ) (kind : Kind) (limit window : ℕ) (s : List ℕ) (d : Directory) (type sub : ℕ) (e : Entry) → Probed depth kind limit window s d type sub e (probed depth kind limit window s d type sub e)
+unfolding probed belowOf
+probed-is depth kind limit window s d type sub e = by (matchOf e type sub) refl depth
+  where
+    few : (n : Directory) → levelTwoAt kind limit window s (d .place .0) e ≡ given n → n .total ≤ limit
+    few n q =
+        let t = then-given (leadsTo window s (d .place .0) e) (directoryAt kind limit 2 s) q in
+        acceptance .only kind limit 2 s (t .0) n (t .2) .0 .few
+
+    down : (l : ℕ) (b : Bool) (r : Reply Directory) → eqb (e .class) (kind .lead) ≡ b → levelTwoAt kind limit window s (d .place .0) e ≡ r → matchOf e type sub ≡ false →
+        Probed (suc l) kind limit window s d type sub e (cond b (entered r) probe.Pass)
+    down l true (given n) q w m = let z : suc l - 1 ≡ l = omega arith in is-enter {n = n} m (omega arith) (few n w) (rw (q, w, z))
+    down l true (refused number carried) q w m = let a = level-alone kind limit window s (d .place .0) e number carried w in is-fault {why = record { number = number }} m (rw (q, w, a))
+    down l false r q w m = is-pass m (rw q)
+
+    last : (b : Bool) → matchOf e type sub ≡ false → Probed 0 kind limit window s d type sub e (cond b probe.Pass probe.Pass)
+    last true m = is-pass m refl
+    last false m = is-pass m refl
+
+    by : (b : Bool) → matchOf e type sub ≡ b → (l : ℕ) →
+        Probed l kind limit window s d type sub e (cond b probe.Match (cond (eqb (e .class) (kind .lead)) (cond (eqb l 0) probe.Pass (entered (levelTwoAt kind limit window s (d .place .0) e))) probe.Pass))
+    by true m l = is-match m
+    by false m zero = last (eqb (e .class) (kind .lead)) m
+    by false m (suc l) = rw (eqb·suc-zero l) (down l (eqb (e .class) (kind .lead)) (levelTwoAt kind limit window s (d .place .0) e) refl refl m)
+
+-- the walk of the last `left` entries of a directory, by what the probe of the first of them says
+module _ (depth : ℕ) (kind : Kind) (limit window : ℕ) (s : List ℕ) (d : Directory) (type sub left t : ℕ) (some : 0 < left) (few : left ≤ d .total) where
+  index : ℕ
+  index = d .total - left
+
+  here : Entry
+  here = entryOf kind s d (d .total - left)
+
+  rest : List Step
+  rest = walkFrom depth kind limit window s d (left - 1) (d .total - (left - 1))
+
+  step : firstIn kind s type sub (walkFrom depth kind limit window s d left (d .total - left)) t
+      ≡ cond (matchOf here type sub) (given (matchIn d (d .total - left) (t + 1))) (firstIn kind s type sub (belowOf depth kind limit window s d here ++ rest) (t + 1))
+  unfolding entriesFrom firstIn here rest
+  step =
+      let a : left ≡ suc (left - 1) = omega arith in
+      let b : d .total - left + 1 ≡ d .total - (left - 1) = omega arith in
+      ap (λ (m : ℕ). firstIn kind s type sub (walkFrom depth kind limit window s d m (d .total - left)) t) a
+      ∙ ap (λ (j : ℕ). cond (matchOf here type sub) (given (matchIn d (d .total - left) (t + 1))) (firstIn kind s type sub (belowOf depth kind limit window s d here ++ walkFrom depth kind limit window s d (left - 1) j) (t + 1))) b
+
+  told : (q : Probe) → q ≡ probeOf depth kind limit window s d type sub (d .total - left) → Probed depth kind limit window s d type sub here q
+  unfolding here
+  told q e =
+      let r = all-entry kind s d (d .total - left) (omega arith) in
+      subst (Probed depth kind limit window s d type sub here) (sym (e ∙ ap (probedBy (probed depth kind limit window s d type sub)) r)) (probed-is depth kind limit window s d type sub here)
+
+  pub by-match : probe.Match ≡ probeOf depth kind limit window s d type sub (d .total - left) → given (matchIn d (d .total - left) (t + 1)) ≡ firstIn kind s type sub (walkFrom depth kind limit window s d left (d .total - left)) t
+  by-match e = by (told probe.Match e)
+    where
+      by : Probed depth kind limit window s d type sub here probe.Match → given (matchIn d (d .total - left) (t + 1)) ≡ firstIn kind s type sub (walkFrom depth kind limit window s d left (d .total - left)) t
+      by (is-match m) = sym (rw m at step)
+
+  pub by-pass : probe.Pass ≡ probeOf depth kind limit window s d type sub (d .total - left) →
+      firstIn kind s type sub (walkFrom depth kind limit window s d (left - 1) (d .total - (left - 1))) (t + 1) ≡ firstIn kind s type sub (walkFrom depth kind limit window s d left (d .total - left)) t
+  unfolding rest
+  by-pass e = by (told probe.Pass e)
+    where
+      by : Probed depth kind limit window s d type sub here probe.Pass →
+          firstIn kind s type sub (walkFrom depth kind limit window s d (left - 1) (d .total - (left - 1))) (t + 1) ≡ firstIn kind s type sub (walkFrom depth kind limit window s d left (d .total - left)) t
+      by (is-pass m b) = sym (rw (m, b) at step)
+
+  pub by-fault : (why : Refusal) → probe.Refused why ≡ probeOf depth kind limit window s d type sub (d .total - left) →
+      refused (why .number) alone ≡ firstIn kind s type sub (walkFrom depth kind limit window s d left (d .total - left)) t
+  unfolding firstIn
+  by-fault why e = by (told (probe.Refused why) e)
+    where
+      by : Probed depth kind limit window s d type sub here (probe.Refused why) → refused (why .number) alone ≡ firstIn kind s type sub (walkFrom depth kind limit window s d left (d .total - left)) t
+      by (is-fault m b) = sym (rw (m, b) at step)
+
+  module _ (n : Directory) (e : probe.Enter n ≡ probeOf depth kind limit window s d type sub (d .total - left)) where
+    pub enter-facts : (0 < depth) × (n .total ≤ limit)
+    enter-facts = by (told (probe.Enter n) e)
+      where
+        by : Probed depth kind limit window s d type sub here (probe.Enter n) → (0 < depth) × (n .total ≤ limit)
+        by (is-enter m h f b) = (h, f)
+
+    below : firstIn kind s type sub (walkFrom depth kind limit window s d left (d .total - left)) t ≡ firstIn kind s type sub (walkOf (depth - 1) kind limit window s n ++ rest) (t + 1)
+    below = by (told (probe.Enter n) e)
+      where
+        by : Probed depth kind limit window s d type sub here (probe.Enter n) →
+            firstIn kind s type sub (walkFrom depth kind limit window s d left (d .total - left)) t ≡ firstIn kind s type sub (walkOf (depth - 1) kind limit window s n ++ rest) (t + 1)
+        by (is-enter m h f b) = rw (m, b) at step
+
+    pub enter-given : (f : Found) → given f ≡ firstIn kind s type sub (walkOf (depth - 1) kind limit window s n) (t + 1) → given f ≡ firstIn kind s type sub (walkFrom depth kind limit window s d left (d .total - left)) t
+    enter-given f h = sym (below ∙ first-given kind s type sub (walkOf (depth - 1) kind limit window s n) rest (t + 1) f (sym h))
+
+    pub enter-refused : (w : ℕ) → refused w alone ≡ firstIn kind s type sub (walkOf (depth - 1) kind limit window s n) (t + 1) → refused w alone ≡ firstIn kind s type sub (walkFrom depth kind limit window s d left (d .total - left)) t
+    enter-refused w h = sym (below ∙ first-refused kind s type sub (walkOf (depth - 1) kind limit window s n) rest (t + 1) w (sym h))
+
+    module _ (u : ℕ) (h : refused 8 (tested u) ≡ firstIn kind s type sub (walkOf (depth - 1) kind limit window s n) (t + 1)) where
+      ended : (firstIn kind s type sub (walkOf (depth - 1) kind limit window s n ++ rest) (t + 1) ≡ firstIn kind s type sub rest u) × (u ≡ t + 1 + tests (walkOf (depth - 1) kind limit window s n))
+      ended = first-absent kind s type sub (walkOf (depth - 1) kind limit window s n) rest (plain-walk kind limit window s (depth - 1) n) (t + 1) 8 u (sym h)
+
+      pub enter-absent : firstIn kind s type sub (walkFrom depth kind limit window s d (left - 1) (d .total - (left - 1))) u ≡ firstIn kind s type sub (walkFrom depth kind limit window s d left (d .total - left)) t
+      unfolding rest
+      enter-absent = sym (below ∙ ended .0)
+
+      pub enter-count : depth ≤ 1 → u ≡ t + 1 + n .total
+      unfolding tests
+      enter-count one =
+          let z : depth - 1 ≡ 0 = omega arith in
+          let c : tests (walkFrom (depth - 1) kind limit window s n (n .total) 0) ≡ n .total = rw z (last-tests kind limit window s n (n .total) 0) in
+          omega (arith, ended .1, c)
+
+-- all entries of a directory that is entered
+pub walk-whole : (depth : ℕ) (kind : Kind) (limit window : ℕ) (s : List ℕ) (d : Directory) (type sub t : ℕ) →
+    firstIn kind s type sub (walkFrom depth kind limit window s d (d .total) (d .total - d .total)) t ≡ firstIn kind s type sub (walkOf depth kind limit window s d) t
+unfolding firstIn
+walk-whole depth kind limit window s d type sub t = let z : d .total - d .total ≡ 0 = omega arith in ap (λ (i : ℕ). firstIn kind s type sub (walkFrom depth kind limit window s d (d .total) i) t) z

@@ -1,0 +1,44 @@
+-- What the walk's inner functions promise of one entry; the lookup's definition does not need it. Assumes nothing: these are definitions.
+use Prim.Native.Nat.{ℕ, _+_, _*_, _^_, _≤_}
+use mathlib.Core.List.{List}
+use mathlib.Core.Bool.{cond}
+use lib.ListN.{length}
+use lib.Dec.{eqb}
+use Rattle.reply.specs.Reply.{Reply, given, refused}
+use Rattle.directory.specs.Entry.{entryIn, matchOf}
+use Rattle.directory.specs.declared.Kind.{Kind}
+use Rattle.directory.specs.declared.Directory.{Directory}
+use Rattle.directory.specs.declared.Entry.{Entry}
+use Rattle.flash.specs.Flash.{levelTwoAt}
+use Rattle.walk.specs.declared.Probe.{Probe}
+use Rattle.walk.specs.declared.Probe.the-variants as probe
+
+-- what an entry leads to, once checked
+abbrev pub entered : Reply Directory → Probe
+entered (given n) = probe.Enter n
+entered (refused number carried) = probe.Refused (record { number = number })
+
+-- an entry that was read, tested: a match, a directory to enter if levels are left, or to be passed over
+unfoldable pub probed : ℕ → Kind → ℕ → ℕ → List ℕ → Directory → ℕ → ℕ → Entry → Probe
+probed depth kind limit window image d type sub e =
+    cond (matchOf e type sub) probe.Match
+    (cond (eqb (e .class) (kind .lead)) (cond (eqb depth 0) probe.Pass (entered (levelTwoAt kind limit window image (d .place .0) e))) probe.Pass)
+
+-- the same of an entry to be read
+abbrev pub probedBy : (Entry → Probe) → Reply Entry → Probe
+probedBy test (given e) = test e
+probedBy test (refused number carried) = probe.Refused (record { number = number })
+
+-- entry i of a directory
+abbrev pub probeOf : ℕ → Kind → ℕ → ℕ → List ℕ → Directory → ℕ → ℕ → ℕ → Probe
+probeOf depth kind limit window image d type sub i = probedBy (probed depth kind limit window image d type sub) (entryIn kind image d i)
+
+-- what keeps the numbers of a walk small: the image's length, two levels, 512 entries in each directory, and so the count
+pub record Small (image : List ℕ) (limit depth total left tested : ℕ) : Type 0 where
+  pub from : 1 ≤ length image
+  pub to : length image ≤ 16_777_216
+  pub most : limit ≤ 512
+  pub levels : depth ≤ 1
+  pub few : total ≤ 512
+  pub entries : left ≤ total
+  pub count : tested + left * 513 + depth * 1_000_000 ≤ 2 ^ 31

@@ -1,0 +1,154 @@
+// The lookup in a whole flash image: a directory walk and an entry walk that call each other.
+ghost use mathlib.Core.Path.{_≡_};
+ghost use Prim.Native.Nat.{_-_, _<_, _≤_};
+ghost use lib.ListN.{length};
+ghost use Rattle.reply.specs.Reply.{refused, alone};
+ghost use Rattle.flash.specs.Flash.{base, levelTwoAt, fromLookup};
+ghost use Rattle.walk.specs.Walk.{walkFrom, walkOf, firstIn, findImage, toldFound};
+ghost use Rattle.walk.specs.Probe.{entered, probed, probeOf, Small};
+use directory::Checked;
+use directory::Directory;
+use directory::Entry;
+use directory::Kind;
+use directory::Read;
+use reply::Refusal;
+use window::Offset;
+use window::Physical;
+
+// A match in a whole image: its directory's place and level, its index, and the number of entries tested.
+pub struct Found {
+    pub place: Offset,
+    pub level: u32,
+    pub index: u32,
+    pub tested: u32,
+}
+
+// What the lookup answers: a match, how many entries were tested where none matches, or the first fault.
+pub enum Walked {
+    Given(Found),
+    Absent(u32),
+    Refused(Refusal),
+}
+
+// What the test of an entry comes to: a match, nothing, a directory to be walked before the next entry, or a fault.
+enum Probe {
+    Match,
+    Pass,
+    Enter(Directory),
+    Refused(Refusal),
+}
+
+// What a walk goes by: the kind of directory, the largest total of one, the window's bytes, and the type and subprogram looked for.
+struct Search {
+    kind: Kind,
+    limit: u32,
+    window: u32,
+    class: u8,
+    sub: u8,
+}
+
+// What an entry that does not match leads to.
+fn enter(image: &[u8], by: Search, d: Directory, e: Entry) -> Probe
+    requires { ⌜ (1 ≤ length (now image)) × (length (now image) ≤ 16777216) ⌝ }
+    ensures { λ r. ⌜ r ≡ entered (levelTwoAt (by .kind) (by .limit) (by .window) (now (image .entry)) (d .place .0) e) ⌝ }
+{
+    match flash::level_two_at(image, by.kind, by.limit, by.window, d.place, e) {
+        Checked::Given(n) => Probe::Enter(n),
+        Checked::Refused(why) => Probe::Refused(why),
+    }
+}
+
+// An entry, tested.
+fn tested_entry(image: &[u8], by: Search, d: Directory, depth: u32, e: Entry) -> Probe
+    requires { ⌜ (1 ≤ length (now image)) × (length (now image) ≤ 16777216) ⌝ }
+    ensures { λ r. ⌜ r ≡ probed depth (by .kind) (by .limit) (by .window) (now (image .entry)) d (by .class) (by .sub) e ⌝ }
+{
+    if directory::matches(e, by.class, by.sub) {
+        return Probe::Match;
+    }
+    let kind = by.kind;
+    if e.class != kind.lead {
+        return Probe::Pass;
+    }
+    if depth == 0 {
+        return Probe::Pass;
+    }
+    enter(image, by, d, e)
+}
+
+// Entry i of a directory, tested.
+fn probe_entry(image: &[u8], by: Search, d: Directory, depth: u32, i: u32) -> Probe
+    requires { ⌜ (1 ≤ length (now image)) × (length (now image) ≤ 16777216) ⌝ }
+    ensures { λ r. ⌜ r ≡ probeOf depth (by .kind) (by .limit) (by .window) (now (image .entry)) d (by .class) (by .sub) i ⌝ }
+{
+    match directory::entry_in(image, by.kind, d, i as usize) {
+        Read::Given(e) => tested_entry(image, by, d, depth, e),
+        Read::Refused(why) => Probe::Refused(why),
+    }
+}
+
+// The walk of a directory, with so many levels left below it, after so many entries tested.
+fn walk_directory(image: &[u8], by: Search, d: Directory, depth: u32, tested: u32) -> Walked
+    requires { ⌜ Small (now image) (by .limit) depth (d .total) (d .total) tested ⌝ }
+    ensures { λ r. ⌜ toldFound r ≡ firstIn (by .kind) (now (image .entry)) (by .class) (by .sub) (walkOf depth (by .kind) (by .limit) (by .window) (now (image .entry)) d) tested ⌝ }
+{
+    walk_entry(image, by, d, depth, d.total, tested)
+}
+
+// The walk of the last entries of a directory, so many as are left.
+fn walk_entry(image: &[u8], by: Search, d: Directory, depth: u32, left: u32, tested: u32) -> Walked
+    requires { ⌜ Small (now image) (by .limit) depth (d .total) left tested ⌝ }
+    ensures { λ r. ⌜ toldFound r ≡ firstIn (by .kind) (now (image .entry)) (by .class) (by .sub) (walkFrom depth (by .kind) (by .limit) (by .window) (now (image .entry)) d left (d .total - left)) tested ⌝ }
+{
+    if left == 0 {
+        return Walked::Absent(tested);
+    }
+    let i = d.total - left;
+    match probe_entry(image, by, d, depth, i) {
+        Probe::Match => {
+            let place = d.place;
+            Walked::Given(Found {
+                place: place,
+                level: d.level,
+                index: i,
+                tested: tested + 1,
+            })
+        }
+        Probe::Pass => walk_entry(image, by, d, depth, left - 1, tested + 1),
+        Probe::Enter(n) => match walk_directory(image, by, n, depth - 1, tested + 1) {
+            Walked::Given(f) => Walked::Given(f),
+            Walked::Absent(t) => walk_entry(image, by, d, depth, left - 1, t),
+            Walked::Refused(why) => Walked::Refused(why),
+        },
+        Probe::Refused(why) => Walked::Refused(why),
+    }
+}
+
+// The answer where there is no directory to look in.
+fn no_walk(why: Refusal) -> Walked
+    ensures { λ r. ⌜ toldFound r ≡ fromLookup (refused (why .number) alone) ⌝ }
+{
+    if why.number == 8 {
+        return Walked::Absent(0);
+    }
+    Walked::Refused(why)
+}
+
+// The lookup by type and subprogram in a whole flash image.
+pub fn find_image(image: &[u8], class: u8, sub: u8) -> Walked
+    ensures { λ r. ⌜ toldFound r ≡ findImage base (now (image .entry)) class sub ⌝ }
+{
+    match flash::directory(image, 1) {
+        Checked::Given(d) => {
+            let by = Search {
+                kind: directory::psp(),
+                limit: flash::LIMIT,
+                window: Physical::WINDOW,
+                class: class,
+                sub: sub,
+            };
+            walk_directory(image, by, d, 1, 0)
+        }
+        Checked::Refused(why) => no_walk(why),
+    }
+}

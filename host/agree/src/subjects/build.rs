@@ -1,0 +1,130 @@
+//! Random calls that write directories, with a digest around each: what is refused must change nothing.
+
+use super::directory::{Directory, Entry, CLASSES, SUBPROGRAMS};
+use super::draft::Draft;
+use super::words::{hex, number};
+use super::{Script, Subject};
+use crate::random::Random;
+
+pub const SUBJECT: Subject = Subject {
+    name: "build",
+    script,
+};
+
+/// The bytes of a directory with as many entries as it may have.
+const LARGEST: u64 = 16 + 16 * 512;
+
+fn script(random: &mut Random, calls: u64) -> Script {
+    let mut draft = Draft::default();
+    while draft.len() < calls {
+        prepare(random, &mut draft);
+        for _ in 0..2 + random.below(10) {
+            draft.line("digest a");
+            let call = extend(random);
+            draft.ask(random, call);
+        }
+        draft.line("digest a");
+        draft.line("show a 0 16");
+    }
+    draft.script()
+}
+
+/// A buffer with a directory in it, started or given; mostly a good one.
+fn prepare(random: &mut Random, draft: &mut Draft) {
+    let entries = match random.below(6) {
+        0 => 508 + random.below(6),
+        1 => random.below(40),
+        _ => random.below(5),
+    };
+    let room = match random.below(10) {
+        0 => random.below(40),
+        _ => 16 * (entries + random.below(8)) + random.one_of(&[15, 16, 16, 17, 31, 32]),
+    };
+    let room = room.min(LARGEST + 16);
+    let filled = random.one_of(&[0, 0, 0xFF, 0xEE]);
+    draft.line(format!("buffer a {} {filled}", number(random, room)));
+    if random.once_in(2) {
+        let call = format!("start a {}", level(random));
+        return draft.ask(random, call);
+    }
+    let mut directory = directory(random, entries);
+    for _ in 0..random.one_of(&[0, 0, 0, 0, 1, 2]) {
+        directory.break_one(random);
+    }
+    let mut bytes = directory.bytes();
+    if random.once_in(16) {
+        let place = random.below(bytes.len() as u64) as usize;
+        bytes[place] = random.number() as u8;
+    }
+    // Where the buffer is too short, so is what lies in it.
+    bytes.truncate(room as usize);
+    draft.line(format!("patch a 0 {}", hex(random, &bytes)));
+}
+
+/// A directory of either level with so many entries.
+fn directory(random: &mut Random, entries: u64) -> Directory {
+    let level = 1 + random.below(2) as u32;
+    let full = random.once_in(4);
+    let entry = |_| Entry {
+        // 0x40 may stand in level one alone.
+        class: random.one_of(&CLASSES) & if level == 1 { 0xFF } else { 0xBF },
+        subprogram: random.one_of(&SUBPROGRAMS),
+        reserved: 0,
+        size: if full {
+            u32::MAX
+        } else {
+            random.number() as u32
+        },
+        word: if full { u64::MAX } else { random.number() },
+    };
+    let entries = (0..entries).map(entry).collect();
+    Directory::of(level, entries)
+}
+
+fn level(random: &mut Random) -> String {
+    let level = match random.below(8) {
+        0 => random.one_of(&[0, 3, 256, 0xFFFF_FFFF, 0x1_0000_0001]),
+        1..=4 => 1,
+        _ => 2,
+    };
+    number(random, level)
+}
+
+/// A call that adds an entry, mostly one that may be added.
+fn extend(random: &mut Random) -> String {
+    let location = match random.below(6) {
+        0 => random.one_of(&[1 << 62, (1 << 62) - 1, (1 << 62) + 1, u64::MAX, 1 << 63]),
+        _ => random.number() >> (2 + random.below(62)),
+    };
+    let mode = match random.below(12) {
+        0 => random.one_of(&[4, 5, 256, 0xFFFF_FFFF]),
+        _ => random.below(4),
+    };
+    let class = random.one_of(&CLASSES);
+    let subprogram = random.one_of(&SUBPROGRAMS);
+    let size = random.number() as u32;
+    let values = [
+        u64::from(class),
+        u64::from(subprogram),
+        u64::from(size),
+        location,
+        mode,
+    ];
+    let words = values.map(|value| number(random, value));
+    format!("extend a {}", words.join(" "))
+}
+
+#[cfg(test)]
+mod tests {
+    use super::*;
+    use crate::subjects::draft::asks;
+
+    #[test]
+    fn every_call_of_the_subject_comes() {
+        let script = script(&mut Random::from_seed(5), 500);
+        let calls = ["start", "extend"];
+        for name in calls {
+            assert!(asks(&script, name), "{name}");
+        }
+    }
+}

@@ -1,0 +1,193 @@
+//! Directories for random images: right ones, and what breaks them. The checksum is this file's own.
+
+use crate::random::Random;
+
+/// The type that leads to level two, and the type that holds a value.
+pub const LEAD: u8 = 0x40;
+pub const VALUE: u8 = 0x0B;
+
+/// Types and subprograms that entries have and lookups ask for: few, so that they meet.
+pub const CLASSES: [u8; 8] = [0x00, 0x01, 0x02, 0x08, VALUE, 0x12, LEAD, 0xFF];
+pub const SUBPROGRAMS: [u8; 4] = [0, 0, 1, 0xFF];
+
+/// An entry.
+#[derive(Clone, Debug, PartialEq, Eq)]
+pub struct Entry {
+    pub class: u8,
+    pub subprogram: u8,
+    pub reserved: u16,
+    pub size: u32,
+    /// The location in the low 62 bits, the mode in the top two.
+    pub word: u64,
+}
+
+impl Entry {
+    pub fn bytes(&self) -> Vec<u8> {
+        let mut bytes = vec![self.class, self.subprogram];
+        bytes.extend(self.reserved.to_le_bytes());
+        bytes.extend(self.size.to_le_bytes());
+        bytes.extend(self.word.to_le_bytes());
+        bytes
+    }
+}
+
+/// A directory, its header field by field.
+#[derive(Clone, Debug, PartialEq, Eq)]
+pub struct Directory {
+    pub cookie: [u8; 4],
+    pub total: u32,
+    pub reserved: u32,
+    pub entries: Vec<Entry>,
+    /// Added to the right checksum, bit by bit; 0 leaves it right.
+    pub wrong: u32,
+}
+
+impl Directory {
+    /// A directory of a level that keeps to the rules, if its entries do.
+    pub fn of(level: u32, entries: Vec<Entry>) -> Directory {
+        Directory {
+            cookie: cookie(level),
+            total: entries.len() as u32,
+            reserved: 0,
+            entries,
+            wrong: 0,
+        }
+    }
+
+    /// All its bytes, with the checksum that its total asks for.
+    pub fn bytes(&self) -> Vec<u8> {
+        let mut summed = self.total.to_le_bytes().to_vec();
+        summed.extend(self.reserved.to_le_bytes());
+        summed.extend(self.entries.iter().flat_map(Entry::bytes));
+        let mut counted = summed.clone();
+        // Where the total says more or fewer entries than there are, zero bytes are taken to follow.
+        counted.resize(8 + 16 * self.total.min(1024) as usize, 0);
+        let sum = checksum(&counted) ^ self.wrong;
+        [&self.cookie[..], &sum.to_le_bytes(), &summed].concat()
+    }
+
+    /// Breaks one thing. The checksum stays right, but where it is what breaks.
+    pub fn break_one(&mut self, random: &mut Random) {
+        let last = self.entries.len() as u64;
+        let entry = match last {
+            0 => None,
+            _ => Some(random.below(last) as usize),
+        };
+        match (random.below(10), entry) {
+            (0, _) => {
+                let other = cookie(3 - level_of(&self.cookie));
+                let strange = [b'$', b'B', b'H', b'D'];
+                self.cookie = random.one_of(&[other, other, strange, [0; 4]]);
+            }
+            (1, _) => {
+                let total = self.total;
+                let near = [total.wrapping_sub(1), total.wrapping_add(1)];
+                self.total = random.one_of(&[near[0], near[1], 512, 513, 0xFFFF, u32::MAX]);
+            }
+            (2, _) => self.wrong = 1 << random.below(32),
+            (3, _) => self.reserved = 1 << random.below(32),
+            (4, Some(at)) => self.entries[at].reserved = 1 << random.below(16),
+            (5 | 6, Some(at)) => self.entries[at].class = LEAD,
+            (7 | 8, Some(_)) => self.zero_a_half(random),
+            _ => self.wrong = random.number() as u32,
+        }
+    }
+
+    /// Makes a half of the right checksum 65,535, and once in two times writes 0 in its place, which is never right.
+    fn zero_a_half(&mut self, random: &mut Random) {
+        let high = random.once_in(2);
+        let count = self.entries.len();
+        if let Some(entry) = self.entries.last_mut() {
+            // The last 16-bit word counts once in either half.
+            entry.word &= 0x0000_FFFF_FFFF_FFFF;
+            self.total = count as u32;
+            let bytes = self.bytes();
+            let sum = checksum(&bytes[8..]);
+            let half = if high { sum >> 16 } else { sum & 0xFFFF };
+            if let Some(entry) = self.entries.last_mut() {
+                entry.word |= u64::from(65_535 - half) << 48;
+            }
+        }
+        if random.once_in(2) {
+            self.wrong = if high { 0xFFFF_0000 } else { 0x0000_FFFF };
+        }
+    }
+}
+
+/// The cookie of a level.
+pub fn cookie(level: u32) -> [u8; 4] {
+    match level {
+        1 => *b"$PSP",
+        _ => *b"$PL2",
+    }
+}
+
+fn level_of(cookie: &[u8; 4]) -> u32 {
+    match cookie {
+        b"$PSP" => 1,
+        _ => 2,
+    }
+}
+
+/// Fletcher's 32-bit sum: the second half adds up what the first half is after each word.
+pub fn checksum(bytes: &[u8]) -> u32 {
+    let (mut sum, mut sums) = (0u32, 0u32);
+    for pair in bytes.chunks_exact(2) {
+        let word = u16::from_le_bytes([pair[0], pair[1]]);
+        sum = (sum + u32::from(word)) % 65_535;
+        sums = (sums + sum) % 65_535;
+    }
+    let written = |half: u32| if half == 0 { 65_535 } else { half };
+    written(sums) << 16 | written(sum)
+}
+
+#[cfg(test)]
+mod tests {
+    use super::*;
+
+    fn entry() -> Entry {
+        Entry {
+            class: 1,
+            subprogram: 0,
+            reserved: 0,
+            size: 0x100,
+            word: 0x4000_0000_0000_1000,
+        }
+    }
+
+    #[test]
+    fn the_checksum_has_values_m1_and_m2() {
+        let sum = |directory: &Directory| directory.bytes()[4..8].to_vec();
+        let empty = Directory::of(1, Vec::new());
+        assert_eq!(sum(&empty), 0xFFFF_FFFFu32.to_le_bytes());
+        let one = Directory::of(2, vec![entry()]);
+        assert_eq!(sum(&one), 0x8614_5102u32.to_le_bytes());
+        assert_eq!(one.bytes()[..4], *b"$PL2");
+        assert_eq!(one.bytes().len(), 32);
+    }
+
+    #[test]
+    fn a_half_can_be_made_65535() {
+        let mut halves = [0; 2];
+        for seed in 0..40 {
+            let mut directory = Directory::of(1, vec![entry(), entry()]);
+            directory.zero_a_half(&mut Random::from_seed(seed));
+            directory.wrong = 0;
+            let sum = checksum(&directory.bytes()[8..]);
+            halves[0] += u32::from(sum & 0xFFFF == 0xFFFF);
+            halves[1] += u32::from(sum >> 16 == 0xFFFF);
+        }
+        assert!(halves.iter().all(|count| *count > 10), "{halves:?}");
+        assert_eq!(halves.iter().sum::<u32>(), 40);
+    }
+
+    #[test]
+    fn what_is_broken_differs() {
+        for seed in 0..200 {
+            let good = Directory::of(2, vec![entry(), entry()]);
+            let mut bad = good.clone();
+            bad.break_one(&mut Random::from_seed(seed));
+            assert_ne!(good, bad, "seed {seed}");
+        }
+    }
+}

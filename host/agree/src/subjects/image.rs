@@ -1,0 +1,279 @@
+//! Random flash images: an EFS, level one, some directories of level two, and what breaks them.
+
+use super::directory::{Directory, Entry, CLASSES, LEAD, SUBPROGRAMS};
+use super::draft::Draft;
+use super::words::{hex, number};
+use crate::random::Random;
+
+/// Where an EFS is looked for, in the order in which it is, and how many bytes of it must lie in the image.
+const CANDIDATES: [u64; 6] = [
+    0xFA_0000, 0xF2_0000, 0xE2_0000, 0xC2_0000, 0x82_0000, 0x02_0000,
+];
+const EFS_BYTES: u64 = 0x24;
+
+/// The most bytes of an image, and the physical address of its first byte.
+const MOST_BYTES: u64 = 16_777_216;
+const WINDOW: u64 = 0xFF00_0000;
+
+/// An image, zero but for its parts.
+pub struct Image {
+    pub length: u64,
+    /// Bytes and where they lie; a later part is written over an earlier one.
+    parts: Vec<(u64, Vec<u8>)>,
+    /// The directories and where they begin, the level one first.
+    pub directories: Vec<(u64, Directory)>,
+}
+
+impl Image {
+    /// Any image: mostly a good one, or one with one or two things broken.
+    pub fn random(random: &mut Random) -> Image {
+        if random.once_in(24) {
+            return Image::without_efs(random);
+        }
+        let efs = match random.below(6) {
+            0 => random.one_of(&CANDIDATES),
+            _ => CANDIDATES[5],
+        };
+        let mut image = Image {
+            length: length_for(random, efs),
+            parts: Vec::new(),
+            directories: Vec::new(),
+        };
+        image.add_directories(random);
+        for _ in 0..random.one_of(&[0, 0, 0, 1, 1, 2]) {
+            let at = random.below(image.directories.len() as u64) as usize;
+            image.directories[at].1.break_one(random);
+        }
+        image.add_efs(random, efs);
+        for (place, directory) in &image.directories {
+            image.parts.push((*place, directory.bytes()));
+        }
+        if random.once_in(12) {
+            image.break_bytes(random);
+        }
+        image
+    }
+
+    /// An image of a length on the edge of some rule, with no EFS, or half of one.
+    fn without_efs(random: &mut Random) -> Image {
+        let least = CANDIDATES[5] + EFS_BYTES;
+        let lengths = [0, 1, 0x24, 0x2_0000, least - 1, least, least + 1];
+        let length = random.one_of(&lengths);
+        let signature = random.one_of(&[[0xAA, 0x55, 0xAA, 0x55], [0x55, 0xAA, 0x55, 0xAA]]);
+        Image {
+            length,
+            parts: vec![(CANDIDATES[5], signature.to_vec()), (0, random.bytes(64))],
+            directories: vec![(0, Directory::of(1, Vec::new()))],
+        }
+    }
+
+    fn add_directories(&mut self, random: &mut Random) {
+        let mut below = Vec::new();
+        for _ in 0..random.one_of(&[0, 1, 1, 1, 2, 3]) {
+            let amount = amount_of_entries(random);
+            let place = self.place_for(random, amount);
+            let entries = (0..amount)
+                .map(|_| self.part_entry(random, place))
+                .collect();
+            below.push((place, Directory::of(2, entries)));
+        }
+        let amount = amount_of_entries(random);
+        let place = self.place_for(random, amount);
+        let entries = (0..amount).map(|_| match below.len() as u64 {
+            leads if leads > 0 && random.once_in(2) => {
+                let to = below[random.below(leads) as usize].0;
+                lead_entry(random, place, to)
+            }
+            _ => self.part_entry(random, place),
+        });
+        let one = Directory::of(1, entries.collect());
+        self.directories.push((place, one));
+        self.directories.extend(below);
+    }
+
+    /// A place for a directory: anywhere in the image's first bytes, at its end, or just beyond.
+    fn place_for(&self, random: &mut Random, entries: u64) -> u64 {
+        let end = self.length.saturating_sub(16 + 16 * entries);
+        match random.below(24) {
+            0 => 0,
+            1 => end,
+            2 => end + 1,
+            3 => random.one_of(&[self.length - 16, self.length - 15]),
+            4 => random.one_of(&[self.length, self.length + 1]),
+            _ => random.below(0x1_0000),
+        }
+    }
+
+    /// An entry of any type. Where its bytes end is in the image, at its end, or just beyond.
+    fn part_entry(&self, random: &mut Random, directory: u64) -> Entry {
+        let class = random.one_of(&CLASSES);
+        let size = match random.below(8) {
+            0 => 0,
+            1 => random.number() as u32,
+            _ => random.below(0x400) as u32,
+        };
+        let end = match random.below(8) {
+            0 => self.length,
+            1 => self.length + 1,
+            2 => self.length - 1,
+            _ => random.below(self.length),
+        };
+        let start = end.saturating_sub(u64::from(size));
+        let astray = random.once_in(4);
+        Entry {
+            class: if class == LEAD { 0x63 } else { class },
+            subprogram: random.one_of(&SUBPROGRAMS),
+            reserved: 0,
+            size,
+            word: aimed(random, directory, start, astray),
+        }
+    }
+
+    /// The EFS that leads to level one, and perhaps others.
+    fn add_efs(&mut self, random: &mut Random, efs: u64) {
+        let root = self.directories[0].0;
+        if random.once_in(5) {
+            // One that is found before or after it, and leads elsewhere.
+            let other = random.one_of(&CANDIDATES);
+            let to = random.below(self.length);
+            self.parts.push((other, efs_bytes(random, to)));
+        }
+        let mut bytes = efs_bytes(random, root);
+        if random.once_in(40) {
+            bytes[random.below(4) as usize] ^= 1 << random.below(8);
+        }
+        self.parts.push((efs, bytes));
+    }
+
+    /// Changes some bytes, in the EFS or in a directory.
+    fn break_bytes(&mut self, random: &mut Random) {
+        for _ in 0..1 + random.below(4) {
+            let at = random.below(self.parts.len() as u64) as usize;
+            let bytes = &mut self.parts[at].1;
+            let place = random.below(bytes.len() as u64) as usize;
+            bytes[place] = random.number() as u8;
+        }
+    }
+
+    /// The lines that make the image.
+    pub fn write(&self, random: &mut Random, draft: &mut Draft, name: &str) {
+        let length = number(random, self.length);
+        draft.line(format!("buffer {name} {length}"));
+        for (place, bytes) in &self.parts {
+            let room = self.length.saturating_sub(*place);
+            let bytes = &bytes[..bytes.len().min(room as usize)];
+            if !bytes.is_empty() {
+                let place = number(random, *place);
+                draft.line(format!("patch {name} {place} {}", hex(random, bytes)));
+            }
+        }
+    }
+
+    /// An index of an entry, mostly one that there is in some directory.
+    pub fn index(&self, random: &mut Random) -> u64 {
+        let at = random.below(self.directories.len() as u64) as usize;
+        let total = self.directories[at].1.entries.len() as u64;
+        match random.below(12) {
+            0 => total,
+            1 => total + 1,
+            2 => random.one_of(&[511, 512, 1 << 32, u64::MAX]),
+            _ => random.below(total.max(1)),
+        }
+    }
+
+    /// A type and subprogram, mostly of some entry.
+    pub fn sought(&self, random: &mut Random) -> (u8, u8) {
+        let at = random.below(self.directories.len() as u64) as usize;
+        let entries = &self.directories[at].1.entries;
+        match entries.len() as u64 {
+            amount if amount > 0 && !random.once_in(3) => {
+                let entry = &entries[random.below(amount) as usize];
+                (entry.class, entry.subprogram)
+            }
+            _ => (random.one_of(&CLASSES), random.one_of(&SUBPROGRAMS)),
+        }
+    }
+}
+
+/// The length of an image with an EFS at a place: just enough for it, a little more or less, or on the edge of what is allowed.
+fn length_for(random: &mut Random, efs: u64) -> u64 {
+    let least = efs + EFS_BYTES;
+    match random.below(60) {
+        0 => least - 1,
+        1 => MOST_BYTES,
+        2 => MOST_BYTES + 1,
+        3..=12 => least,
+        _ => least + random.below(0x4000),
+    }
+}
+
+/// How many entries a directory has: mostly few.
+fn amount_of_entries(random: &mut Random) -> u64 {
+    match random.below(60) {
+        0 => random.one_of(&[510, 511, 512]),
+        1 => 20 + random.below(100),
+        2..=6 => 0,
+        _ => 1 + random.below(6),
+    }
+}
+
+/// An entry of level one that leads to a place.
+fn lead_entry(random: &mut Random, directory: u64, to: u64) -> Entry {
+    let astray = random.once_in(8);
+    Entry {
+        class: LEAD,
+        subprogram: random.one_of(&SUBPROGRAMS),
+        reserved: 0,
+        size: random.one_of(&[0, 0x400, u32::MAX]),
+        word: aimed(random, directory, to, astray),
+    }
+}
+
+/// The location and mode that lead from a directory to a place, or astray.
+fn aimed(random: &mut Random, directory: u64, to: u64, astray: bool) -> u64 {
+    const MODE: u64 = 1 << 62;
+    if !astray {
+        let from_directory = to.wrapping_sub(directory) & (MODE - 1);
+        return random.one_of(&[WINDOW + to, to | MODE, from_directory | 2 * MODE]);
+    }
+    match random.below(8) {
+        0 | 1 => random.number() | 3 * MODE,
+        2 => random.number(),
+        // What would lead there if the window, 32 bits or the directory did not count.
+        3 => to,
+        4 => (WINDOW + to) | MODE,
+        5 => (WINDOW + to + (1 << 32)) & (MODE - 1),
+        6 => (to + (1 << 32)) | MODE,
+        _ => random.one_of(&[WINDOW - 1, WINDOW, 0xFFFF_FFFF, 0x1_0000_0000]),
+    }
+}
+
+/// An EFS whose pointers lead to a place, mostly.
+fn efs_bytes(random: &mut Random, to: u64) -> Vec<u8> {
+    let mut bytes = vec![random.one_of(&[0, 0, 0xFF, 0x11]); EFS_BYTES as usize];
+    bytes[..4].copy_from_slice(&[0xAA, 0x55, 0xAA, 0x55]);
+    let offset = to as u32;
+    let physical = (WINDOW + to) as u32;
+    let good = random.one_of(&[offset, physical, physical]);
+    let absent = random.one_of(&[0, 0xFFFF_FFFF]);
+    let strange = [
+        0x0100_0000,
+        0x1234_5678,
+        0xFEFF_FFFF,
+        0x00FF_FFFF,
+        0xFF00_0000,
+        1,
+    ];
+    let bad = random.one_of(&strange);
+    let (early, late) = match random.below(30) {
+        0 => (absent, absent),
+        1 => (good, bad),
+        2 => (bad, absent),
+        3..=12 => (good, absent),
+        13..=21 => (bad, good),
+        _ => (absent, good),
+    };
+    bytes[0x10..0x14].copy_from_slice(&early.to_le_bytes());
+    bytes[0x14..0x18].copy_from_slice(&late.to_le_bytes());
+    bytes
+}

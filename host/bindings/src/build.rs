@@ -1,0 +1,141 @@
+//! A directory in a buffer: started at its beginning, and extended by one entry after another.
+
+use crate::answer::{answer_of, done_by, Answer};
+
+extern "C" {
+    fn kpalumere_start(buf: *mut u8, buf_len: usize, level: u32) -> u64;
+
+    fn kpalumere_extend(
+        buf: *mut u8,
+        buf_len: usize,
+        class: u8,
+        subprogram: u8,
+        size: u32,
+        location: u64,
+        mode: u32,
+        words: *mut u64,
+        words_len: usize,
+    ) -> u64;
+}
+
+/// An entry to be written. Its location and mode may be any numbers: the library checks them.
+#[derive(Clone, Copy, Debug, PartialEq, Eq)]
+pub struct NewEntry {
+    /// Its type, a word that Rust keeps for itself.
+    pub class: u8,
+    pub subprogram: u8,
+    pub size: u32,
+    pub location: u64,
+    pub mode: u32,
+}
+
+/// Writes an empty directory of a level at the buffer's start.
+pub fn start(buffer: &mut [u8], level: u32) -> Answer<()> {
+    // SAFETY: a lent slice, as the crate's page says.
+    done_by(unsafe { kpalumere_start(buffer.as_mut_ptr(), buffer.len(), level) })
+}
+
+/// Adds an entry to the directory at the buffer's start, and answers the new total.
+pub fn extend(buffer: &mut [u8], entry: &NewEntry) -> Answer<u64> {
+    answer_of(
+        |words: &mut [u64; 1]| extend_into(buffer, entry, words),
+        |words| words[0],
+    )
+}
+
+/// The exported call, with the words as a caller lends them.
+fn extend_into(buffer: &mut [u8], entry: &NewEntry, words: &mut [u64]) -> u64 {
+    // SAFETY: lent slices, as the crate's page says.
+    unsafe {
+        kpalumere_extend(
+            buffer.as_mut_ptr(),
+            buffer.len(),
+            entry.class,
+            entry.subprogram,
+            entry.size,
+            entry.location,
+            entry.mode,
+            words.as_mut_ptr(),
+            words.len(),
+        )
+    }
+}
+
+#[cfg(test)]
+mod tests {
+    use super::*;
+    use crate::answer::Refusal;
+
+    /// The entry of value M2.
+    const M2: NewEntry = NewEntry {
+        class: 1,
+        subprogram: 0,
+        size: 0x100,
+        location: 0x1000,
+        mode: 1,
+    };
+
+    #[test]
+    fn a_started_directory_has_value_m1_and_one_of_an_entry_m2() {
+        let mut buffer = [0xEE; 40];
+        assert_eq!(start(&mut buffer, 1), Ok(()));
+        assert_eq!(buffer[..8], *b"$PSP\xFF\xFF\xFF\xFF");
+        assert_eq!(buffer[8..16], [0; 8]);
+        assert_eq!(buffer[16..], [0xEE; 24]);
+        assert_eq!(extend(&mut buffer, &M2), Ok(1));
+        assert_eq!(buffer[4..8], 0x8614_5102u32.to_le_bytes());
+        assert_eq!(buffer[8..20], [1, 0, 0, 0, 0, 0, 0, 0, 1, 0, 0, 0]);
+        assert_eq!(buffer[24..32], 0x4000_0000_0000_1000u64.to_le_bytes());
+        assert_eq!(buffer[32..], [0xEE; 8]);
+    }
+
+    #[test]
+    fn all_nine_arguments_arrive() {
+        let mut buffer = [0; 32];
+        assert_eq!(start(&mut buffer, 2), Ok(()));
+        let entry = NewEntry {
+            class: 0xA1,
+            subprogram: 0xB2,
+            size: 0xC3D4_E5F6,
+            location: 0x0123_4567_89AB_CDEF,
+            mode: 3,
+        };
+        assert_eq!(extend(&mut buffer, &entry), Ok(1));
+        let expected = [0xA1, 0xB2, 0, 0, 0xF6, 0xE5, 0xD4, 0xC3];
+        assert_eq!(buffer[16..24], expected);
+        assert_eq!(buffer[24..], 0xC123_4567_89AB_CDEFu64.to_le_bytes());
+    }
+
+    #[test]
+    fn a_refused_write_keeps_every_byte() {
+        let mut buffer = [0x11; 24];
+        let kept = buffer;
+        assert_eq!(start(&mut buffer, 3), Err(Refusal::alone(9)));
+        assert_eq!(start(&mut buffer[..15], 1), Err(Refusal::alone(12)));
+        assert_eq!(extend(&mut buffer, &M2), Err(Refusal::alone(2)));
+        assert_eq!(extend(&mut buffer[..0], &M2), Err(Refusal::alone(1)));
+        assert_eq!(buffer, kept);
+        assert_eq!(start(&mut buffer, 2), Ok(()));
+        let kept = buffer;
+        let outside = NewEntry { mode: 4, ..M2 };
+        assert_eq!(extend(&mut buffer, &outside), Err(Refusal::alone(5)));
+        let outside = NewEntry {
+            location: 1 << 62,
+            ..M2
+        };
+        assert_eq!(extend(&mut buffer, &outside), Err(Refusal::alone(5)));
+        let misplaced = NewEntry { class: 0x40, ..M2 };
+        assert_eq!(extend(&mut buffer, &misplaced), Err(Refusal::alone(14)));
+        assert_eq!(extend(&mut buffer, &M2), Err(Refusal::alone(12)));
+        assert_eq!(buffer, kept);
+    }
+
+    #[test]
+    fn without_room_for_the_word_nothing_is_written() {
+        let mut buffer = [0; 32];
+        assert_eq!(start(&mut buffer, 1), Ok(()));
+        let kept = buffer;
+        assert_eq!(extend_into(&mut buffer, &M2, &mut []), 12);
+        assert_eq!(buffer, kept);
+    }
+}
