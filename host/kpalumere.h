@@ -179,6 +179,62 @@ uint64_t kpalumere_guid_start(uint8_t *buf, size_t buf_len);
 uint64_t kpalumere_guid_extend(uint8_t *buf, size_t buf_len, uint64_t low, uint64_t high, const uint8_t *data, size_t data_len,
                                uint64_t *words, size_t words_len);
 
+/* ---- The mailbox ----
+ *
+ * A mailbox, with the firmware behind it, is 88 words that the caller keeps between the calls; words behind these are kept:
+ *
+ *   0         the register: 0 idle, 1 a command, 2 a response
+ *   1, 2      the register's caller and its word, both 0 where it is idle
+ *   3         how many posts are in the line
+ *   4         the interface: 1 on, 0 off
+ *   5, 6, 7   the parts 1 to 3: 0 for none, 2^16 + its value for one that is held
+ *   8 to 15   the line, the oldest post first: caller in bits 63:32, command in 31:16, data in 15:0
+ *   16 to 23  the places of callers 0 to 7: 0 free, 2^32 waiting, 2 * 2^32 + w for the word w
+ *   24 to 87  the IDs 0 to 63: bit 0 a descriptor is saved, bit 1 delivery is on, its parts 1, 2, 3 in bits 31:16, 47:32, 63:48
+ *
+ * Words that are no mailbox's, or a mailbox's that breaks the rules, answer 5, first of all. What a call gives goes to the
+ * lent `values`. What is refused changes neither words nor values.
+ */
+
+/* Writes a fresh mailbox with fresh firmware.
+ *
+ * Answers 0; 12 where words_len is below 88.
+ */
+uint64_t kpalumere_mailbox_fresh(uint64_t *words, size_t words_len);
+
+/* A caller's command with its data joins the line.
+ *
+ * Answers 0, and no values; 5; 9 where the caller is above 7 or the command above 0x3FF; 10 where the caller has a post that is
+ * not taken.
+ */
+uint64_t kpalumere_post(uint64_t *words, size_t words_len, uint64_t *values, size_t values_len, uint32_t caller,
+                        uint32_t command, uint16_t data);
+
+/* The oldest post enters an idle register.
+ *
+ * Answers 0 and values[0] = 1 where it did, 0 where it did not; 5; 12 where values_len is 0.
+ */
+uint64_t kpalumere_load(uint64_t *words, size_t words_len, uint64_t *values, size_t values_len);
+
+/* A command in the register becomes its response.
+ *
+ * Answers 0 and values[0] = 1 where it did, 0 where it did not; 5; 12 where values_len is 0.
+ */
+uint64_t kpalumere_turn(uint64_t *words, size_t words_len, uint64_t *values, size_t values_len);
+
+/* A response goes to its caller's place.
+ *
+ * Answers 0 and values[0] = 1 where it did, 0 where it did not; 5; 12 where values_len is 0.
+ */
+uint64_t kpalumere_unload(uint64_t *words, size_t words_len, uint64_t *values, size_t values_len);
+
+/* A caller takes its word, and its place is free.
+ *
+ * Answers 0 and values[0] = the word; 5; 9 where the caller is above 7; 8 where it has no post that is not taken; 11 where the
+ * word is not there yet; 12 where values_len is 0.
+ */
+uint64_t kpalumere_take(uint64_t *words, size_t words_len, uint64_t *values, size_t values_len, uint32_t caller);
+
 #ifdef __cplusplus
 }
 #endif

@@ -55,11 +55,14 @@ has_rust_library() {
     compgen -G "$folder/libstd-*.rlib" >/dev/null
 }
 
-# Prints the Debian packages that hold what the machine lacks. Only the tests need the formatter.
+# Prints the Debian packages that hold what the machine lacks. Only the tests need the formatter and the OVMF images.
 missing_packages() { # tool | tests
     works "$rustc" || echo rustc
     works "$cargo" || echo cargo
-    if [ "$1" = tests ]; then works "$rustfmt" || echo rustfmt; fi
+    if [ "$1" = tests ]; then
+        works "$rustfmt" || echo rustfmt
+        compgen -G '/usr/share/OVMF/*.fd' >/dev/null || echo ovmf
+    fi
     if [ "$machine" = x86_64 ]; then
         can_link_c || printf '%s\n' gcc libc6-dev
     else

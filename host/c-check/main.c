@@ -135,6 +135,31 @@ static void check_guids(void)
     expect("value M10", 3, kpalumere_guids(buffer, sizeof buffer, words, 2));
 }
 
+static void check_mailbox(void)
+{
+    uint64_t words[89] = {0};
+    uint64_t values[1] = {0};
+
+    words[88] = 7;
+    expect("a fresh mailbox", 0, kpalumere_mailbox_fresh(words, 89));
+    expect("the word behind is kept", 7, words[88]);
+    expect("a post is accepted", 0, kpalumere_post(words, 89, values, 0, 5, 0x81, 0));
+    expect("another of its caller is not", 10, kpalumere_post(words, 89, values, 0, 5, 0x81, 0));
+    expect("a command above 0x3FF is not", 9, kpalumere_post(words, 89, values, 0, 6, 0x400, 0));
+    expect("a load", 0, kpalumere_load(words, 89, values, 1));
+    expect("acts", 1, values[0]);
+    expect("its word is not there yet", 11, kpalumere_take(words, 89, values, 1, 5));
+    expect("a turn", 0, kpalumere_turn(words, 89, values, 1));
+    expect("an unload", 0, kpalumere_unload(words, 89, values, 1));
+    expect("a take", 0, kpalumere_take(words, 89, values, 1, 5));
+    expect("value M3", 0x80810001, values[0]);
+    expect("a load", 0, kpalumere_load(words, 89, values, 1));
+    expect("has nothing to do", 0, values[0]);
+    words[3] = 9;
+    expect("words that break the rules are refused", 5, kpalumere_load(words, 89, values, 1));
+    expect("too few are no mailbox", 5, kpalumere_load(words, 87, values, 1));
+}
+
 int main(void)
 {
     check_checksum();
@@ -142,6 +167,7 @@ int main(void)
     check_view();
     check_build();
     check_guids();
+    check_mailbox();
     puts(failures == 0 ? "a caller in C sees the values of document 01" : "a caller in C sees other values");
     return failures != 0;
 }

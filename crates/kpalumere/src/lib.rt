@@ -3,5 +3,6 @@
 mod checksum;
 mod guid_table;
 mod images;
+mod mailbox;
 mod views;
 mod writing;

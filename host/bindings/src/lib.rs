@@ -12,6 +12,7 @@ mod build;
 mod checksum;
 mod flash;
 mod guids;
+mod mailbox;
 #[cfg(test)]
 mod sample;
 mod view;
@@ -25,4 +26,5 @@ pub use flash::{
 pub use guids::{
     guid_entry, guid_extend, guid_find, guid_start, guids, Guid, GuidEntry, GuidMatch, GuidTable,
 };
+pub use mailbox::{Firmware, Interrupt, Mailbox, Place, Post, Register};
 pub use view::{view, view_entry, view_part};

@@ -13,6 +13,11 @@ pub enum Command {
     Ask {
         file: Option<OsString>,
     },
+    MailboxHelp,
+    /// Play a recording of the mailbox, from a file or from standard input.
+    Mailbox {
+        file: Option<OsString>,
+    },
 }
 
 /// Reads the words after the program's name. The error is the message to show.
@@ -28,6 +33,7 @@ pub fn read(words: impl Iterator<Item = OsString>) -> Result<Command, String> {
         ["--help" | "-h" | "help"] => Ok(Command::Help),
         ["--version"] => Ok(Command::Version),
         ["ask", "--help" | "-h"] | ["help", "ask"] => Ok(Command::AskHelp),
+        ["help", "mailbox"] => Ok(Command::MailboxHelp),
         ["ask"] => Ok(Command::Ask { file: None }),
         ["ask", option] if option.starts_with('-') => Err(format!(
             "kpalumere: ask has no option {option:?}. Name a file of calls, or none to read \
@@ -41,6 +47,7 @@ pub fn read(words: impl Iterator<Item = OsString>) -> Result<Command, String> {
              `cat A B | kpalumere ask`.",
             more.len()
         )),
+        ["mailbox", more @ ..] => mailbox(more, &words[1..]),
         [known @ ("--help" | "-h" | "help" | "--version"), ..] => Err(format!(
             "kpalumere: `{known}` is followed by a word that it does not take. \
              `kpalumere --help` has the commands."
@@ -48,6 +55,26 @@ pub fn read(words: impl Iterator<Item = OsString>) -> Result<Command, String> {
         [_, ..] => Err(format!(
             "kpalumere: there is no command {:?}. `kpalumere --help` has the commands.",
             words[0]
+        )),
+    }
+}
+
+/// Reads the words after `mailbox`, as texts and as they are.
+fn mailbox(texts: &[&str], words: &[OsString]) -> Result<Command, String> {
+    match texts {
+        ["--help" | "-h"] => Ok(Command::MailboxHelp),
+        [] | ["-"] => Ok(Command::Mailbox { file: None }),
+        [option] if option.starts_with('-') => Err(format!(
+            "kpalumere: mailbox has no option {option:?}. Name a recording, or none to read \
+             standard input; `kpalumere mailbox --help` says what a recording is."
+        )),
+        [_] => Ok(Command::Mailbox {
+            file: Some(words[0].clone()),
+        }),
+        [_, more @ ..] => Err(format!(
+            "kpalumere: mailbox plays one recording, and {} words follow its name. Join the files, \
+             as in `cat A B | kpalumere mailbox`; `kpalumere mailbox --help` says more.",
+            more.len()
         )),
     }
 }
@@ -76,11 +103,32 @@ mod tests {
     }
 
     #[test]
+    fn the_command_mailbox_is_read() {
+        for words in [
+            ["mailbox", "--help"],
+            ["mailbox", "-h"],
+            ["help", "mailbox"],
+        ] {
+            assert_eq!(read_words(&words), Ok(Command::MailboxHelp));
+        }
+        for words in [&["mailbox"][..], &["mailbox", "-"]] {
+            assert_eq!(read_words(words), Ok(Command::Mailbox { file: None }));
+        }
+        let file = Some(OsString::from("a.ask"));
+        assert_eq!(
+            read_words(&["mailbox", "a.ask"]),
+            Ok(Command::Mailbox { file })
+        );
+    }
+
+    #[test]
     fn a_file_name_need_not_be_text() {
         let name = OsString::from_vec(b"caf\xe9.ask".to_vec());
-        let words = [OsString::from("ask"), name.clone()];
-        let expected = Command::Ask { file: Some(name) };
-        assert_eq!(read(words.into_iter()), Ok(expected));
+        let read_after = |command: &str| read([command.into(), name.clone()].into_iter());
+        let file = Some(name.clone());
+        assert_eq!(read_after("ask"), Ok(Command::Ask { file }));
+        let file = Some(name.clone());
+        assert_eq!(read_after("mailbox"), Ok(Command::Mailbox { file }));
     }
 
     #[test]
@@ -91,6 +139,9 @@ mod tests {
             &["ask", "--json"],
             &["ask", "-"],
             &["ask", "a", "b"],
+            &["mailbox", "--json"],
+            &["mailbox", "a", "b"],
+            &["mailbox", "-", "-"],
             &["--help", "ask", "now"],
             &["help", "register"],
             &["--version", "2"],
@@ -98,7 +149,8 @@ mod tests {
         ] {
             let message = read_words(words).unwrap_err();
             assert!(message.starts_with("kpalumere: "), "{words:?}: {message}");
-            assert!(message.contains("kpalumere ask") || message.contains("kpalumere --help"));
+            let ways = ["kpalumere ask", "kpalumere mailbox", "kpalumere --help"];
+            assert!(ways.iter().any(|way| message.contains(way)), "{message}");
         }
     }
 }

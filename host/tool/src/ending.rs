@@ -5,8 +5,10 @@ use std::io;
 /// How a run ends.
 #[derive(Clone, Copy, Debug, PartialEq, Eq)]
 pub enum Ending {
-    /// All was done. A refusal of the library is an answer, so it ends so as well.
+    /// All was done. A refusal of the library is an answer, so `ask` ends so as well.
     Done,
+    /// Some call of a recording was refused.
+    Refused,
     /// Some line was no call.
     BadLine,
     /// The command line is none.
@@ -20,7 +22,7 @@ impl Ending {
     pub fn status(self) -> u8 {
         match self {
             Ending::Done => 0,
-            Ending::BadLine => 1,
+            Ending::Refused | Ending::BadLine => 1,
             Ending::WrongWords => 2,
             Ending::NotReadOrWritten => 3,
         }

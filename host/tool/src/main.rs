@@ -4,6 +4,7 @@ mod ask;
 mod command_line;
 mod ending;
 mod help;
+mod mailbox;
 
 use command_line::Command;
 use ending::Ending;
@@ -15,6 +16,8 @@ fn main() -> ExitCode {
         Ok(Command::Version) => help::print(help::VERSION),
         Ok(Command::AskHelp) => help::print(&ask::help()),
         Ok(Command::Ask { file }) => ask::run(file),
+        Ok(Command::MailboxHelp) => help::print(mailbox::HELP),
+        Ok(Command::Mailbox { file }) => mailbox::run(file),
         Err(wrong) => {
             eprintln!("{wrong}");
             Ending::WrongWords

@@ -87,7 +87,10 @@ impl Directory {
             (2, _) => self.wrong = 1 << random.below(32),
             (3, _) => self.reserved = 1 << random.below(32),
             (4, Some(at)) => self.entries[at].reserved = 1 << random.below(16),
-            (5 | 6, Some(at)) => self.entries[at].class = LEAD,
+            (5 | 6, Some(at)) => {
+                self.entries[at].class = LEAD;
+                self.entries[at].reserved |= u16::from(random.once_in(4));
+            }
             (7 | 8, Some(_)) => self.zero_a_half(random),
             _ => self.wrong = random.number() as u32,
         }

@@ -112,7 +112,8 @@ impl Image {
             1 => random.number() as u32,
             _ => random.below(0x400) as u32,
         };
-        let end = match random.below(8) {
+        // What has no bytes is on the edge more often.
+        let end = match random.below(if size == 0 { 4 } else { 8 }) {
             0 => self.length,
             1 => self.length + 1,
             2 => self.length - 1,
@@ -132,8 +133,12 @@ impl Image {
     /// The EFS that leads to level one, and perhaps others.
     fn add_efs(&mut self, random: &mut Random, efs: u64) {
         let root = self.directories[0].0;
-        if random.once_in(5) {
-            // One that is found before or after it, and leads elsewhere.
+        // Others, which are found before or after it, and lead elsewhere.
+        let others = match efs == CANDIDATES[5] {
+            true => random.below(5) / 4,
+            false => random.below(4),
+        };
+        for _ in 0..others {
             let other = random.one_of(&CANDIDATES);
             let to = random.below(self.length);
             self.parts.push((other, efs_bytes(random, to)));

@@ -10,6 +10,7 @@ mod flash;
 mod guids;
 mod image;
 mod lines;
+mod mailbox;
 mod view;
 mod words;
 
@@ -32,6 +33,7 @@ pub static SUBJECTS: &[Subject] = &[
     view::SUBJECT,
     build::SUBJECT,
     guids::SUBJECT,
+    mailbox::SUBJECT,
 ];
 
 #[cfg(test)]

@@ -24,10 +24,11 @@ impl Call {
             return Ok(());
         }
         let amount = if found < most - spare { "few" } else { "many" };
+        let form = format!("{} {}", self.name, self.words);
         Err(BadLine::new(format!(
-            "too {amount} words ({found}) after {name}; write `{name} {words}`",
-            name = self.name,
-            words = self.words
+            "too {amount} words ({found}) after {}; write `{}`",
+            self.name,
+            form.trim_end()
         )))
     }
 }
@@ -74,5 +75,8 @@ mod tests {
             reason,
             "too few words (1) after make; write `make NAME LENGTH [BYTE]`"
         );
+        let alone = Call { words: "", ..call };
+        let reason = alone.expect_words(1).unwrap_err().reason;
+        assert_eq!(reason, "too many words (1) after make; write `make`");
     }
 }

@@ -47,6 +47,11 @@ pub fn number8(role: &str, word: &[u8]) -> Result<u8, BadLine> {
     Ok(number(role, word, u64::from(u8::MAX))? as u8)
 }
 
+/// A NUMBER of 16 bits.
+pub fn number16(role: &str, word: &[u8]) -> Result<u16, BadLine> {
+    Ok(number(role, word, u64::from(u16::MAX))? as u16)
+}
+
 /// A NUMBER of 32 bits.
 pub fn number32(role: &str, word: &[u8]) -> Result<u32, BadLine> {
     Ok(number(role, word, u64::from(u32::MAX))? as u32)
@@ -145,6 +150,8 @@ mod tests {
         }
         assert_eq!(number8("BYTE", b"255"), Ok(255));
         assert!(number8("BYTE", b"256").is_err());
+        assert_eq!(number16("DATA", b"0xffff"), Ok(65_535));
+        assert!(number16("DATA", b"0x10000").is_err());
         assert_eq!(number32("LEVEL", b"4294967295"), Ok(u32::MAX));
         assert!(number32("LEVEL", b"4294967296").is_err());
         for word in [

@@ -5,10 +5,11 @@
 
 mod buffers;
 mod build;
-mod call;
+pub mod call;
 mod flash;
 mod guids;
-mod lines;
+pub mod lines;
+pub mod mailbox;
 mod view;
 
 use crate::ending::Ending;
@@ -25,12 +26,14 @@ static TABLES: &[&[Call]] = &[
     &view::CALLS,
     &build::CALLS,
     &guids::CALLS,
+    &mailbox::CALLS,
 ];
 
 /// What the program keeps from one call to the next.
 #[derive(Default)]
 pub struct State {
     buffers: Buffers,
+    mailbox: mailbox::Kept,
 }
 
 /// Why a conversation stopped before its last line.

@@ -1,0 +1,5 @@
+pub mod ConsistentLaws
+pub mod LineLaws
+pub mod Facts
+pub mod CallLaws
+pub mod Settled

@@ -1,0 +1,25 @@
+-- `mailbox::Mailbox::unload` meets its contract. Assumes nothing.
+use Rattle.mailbox.proofs.CallLaws.{unload-calls, good-is}
+use borrow.Author.Needs.{needs}
+use Rattle.mailbox.proofs.Mailbox.unload.Statement.{statement}
+use Rattle.mailbox.proofs.Mailbox.unload.Tie as tie
+
+consistent-requires : tie.Need-consistent-requires
+consistent-requires c κs = search needs
+
+unloaded-requires : tie.Need-unloaded-requires
+unloaded-requires c κs = search (needs, good-is)
+
+step-answer-requires : tie.Need-step-answer-requires
+step-answer-requires c κs = search needs
+
+returns : tie.Need-returns
+returns c = search unload-calls
+
+returns-2 : tie.Need-returns-2
+returns-2 c = search unload-calls
+
+pub unload-spec : {M : Type 1} → statement M
+unload-spec =
+    tie.close
+    (tie.spec consistent-requires unloaded-requires step-answer-requires returns returns-2)

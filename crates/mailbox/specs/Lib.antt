@@ -1,0 +1,4 @@
+pub mod Machine
+pub mod Consistent
+pub mod Calls
+pub mod Settled

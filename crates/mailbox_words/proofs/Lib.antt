@@ -1,0 +1,6 @@
+pub mod LayoutLaws
+pub mod CallLaws
+pub mod TypedLaws
+pub mod Back
+pub mod Faithful
+pub mod Runs

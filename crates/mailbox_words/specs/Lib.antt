@@ -1,0 +1,5 @@
+pub mod Layout
+pub mod Calls
+pub mod Typed
+pub mod Faithful
+pub mod Runs
