@@ -136,6 +136,35 @@ uint64_t kpalumere_start(uint8_t *buf, size_t buf_len, uint32_t level);
 uint64_t kpalumere_extend(uint8_t *buf, size_t buf_len, uint8_t type, uint8_t sub, uint32_t size, uint64_t location,
                           uint32_t mode, uint64_t *words, size_t words_len);
 
+/* ---- The AMD Secure Processor Table ----
+ *
+ * A table crosses the boundary as 22 words:
+ *
+ *   0        the OEM ID: its six bytes as a number from the lowest on
+ *   1        the OEM table ID: its eight bytes as a number from the lowest on
+ *   2, 3, 4  OEM revision, creator ID, creator revision
+ *   5, 6     the base address of the registers, and the number of pages of 4,096 bytes
+ *   7 to 11  the first structure: type, ID byte, and three register offsets in the order of the source's table
+ *   12 to 16 and 17 to 21  the second and the third structure
+ *
+ * A field that a structure's type lacks is no part of it: it is read as 0, and neither checked nor written.
+ */
+
+/* Reads the table in the first 112 bytes; more are ignored.
+ *
+ * Answers 0 and 22 words; 1 where fewer than 112 bytes are lent; 2 (signature), 3 (length, or number of structures),
+ * 5 (revision, base address, reserved bytes, type 1's ID byte), 4 (checksum), 6 (length or type of a structure) or 7 (register
+ * outside its space); 12 where words_len is below 22.
+ */
+uint64_t kpalumere_aspt_read(const uint8_t *bytes, size_t bytes_len, uint64_t *words, size_t words_len);
+
+/* Writes the table of 22 words over the buffer's first 112 bytes, and keeps the bytes behind. The words are only read.
+ *
+ * Answers 0; 1 where words_len is below 22; 5 where a word is wider than its field; then 5 (base address, type 1's ID byte),
+ * 6 (type of a structure) or 7 (register outside its space); 12 where buf_len is below 112. What is refused changes no byte.
+ */
+uint64_t kpalumere_aspt_write(uint8_t *buf, size_t buf_len, const uint64_t *words, size_t words_len);
+
 /* ---- The GUID table ----
  *
  * The table ends 32 bytes before the end of a guest firmware image. A GUID is given as two numbers: its sixteen bytes in

@@ -111,6 +111,27 @@ static void check_build(void)
     expect("mode 4 is refused", 5, kpalumere_extend(buffer, sizeof buffer, 1, 0, 0x100, 0x1000, 4, words, 1));
 }
 
+static void check_aspt(void)
+{
+    /* OEM ID, OEM table ID, revisions and creator, base, pages; structures of types 2, 0 and 1. */
+    static const uint64_t table[22] = {UINT64_C(0x464544434241), UINT64_C(0x4E4D4C4B4A494847), 1, 2, 3, 0xFED00000, 1,
+                                       2, 0, 0xFFC, 0, 0, 0, 0, 0x10, 0x14, 0x18, 1, 1, 0x20, 0x24, 0x28};
+    uint8_t buffer[113];
+    uint64_t words[22] = {0};
+
+    memset(buffer, 0xEE, sizeof buffer);
+    expect("a table is written", 0, kpalumere_aspt_write(buffer, sizeof buffer, table, 22));
+    expect("its signature", 0, (uint64_t)(memcmp(buffer, "ASPT", 4) != 0));
+    expect("its OEM IDs", 0, (uint64_t)(memcmp(buffer + 10, "ABCDEFGHIJKLMN", 14) != 0));
+    expect("the byte behind is kept", 0xEE, buffer[112]);
+    expect("it is read back", 0, kpalumere_aspt_read(buffer, sizeof buffer, words, 22));
+    expect("as it was", 0, (uint64_t)(memcmp(words, table, sizeof table) != 0));
+    expect("no room is refused", 12, kpalumere_aspt_write(buffer, 111, table, 22));
+    expect("too few words are refused", 1, kpalumere_aspt_write(buffer, sizeof buffer, table, 21));
+    buffer[20] ^= 1;
+    expect("damage is refused", 4, kpalumere_aspt_read(buffer, sizeof buffer, words, 22));
+}
+
 static void check_guids(void)
 {
     static const uint8_t data[3] = {1, 2, 3};
@@ -166,6 +187,7 @@ int main(void)
     check_flash();
     check_view();
     check_build();
+    check_aspt();
     check_guids();
     check_mailbox();
     puts(failures == 0 ? "a caller in C sees the values of document 01" : "a caller in C sees other values");

@@ -33,7 +33,7 @@ untaken (Ready word) = 1
 abbrev pub OthersKept : Mailbox → ℕ → Mailbox → Type 0
 OthersKept m caller n = (other : ℕ) → (other ≡ caller → ⊥) → stateOf n other ≡ stateOf m other
 
--- a post joins the line's end
+-- a post is accepted, and is the last in line
 pub record Joins (m : Mailbox) (p : Post) (s : After Seen) : Type 0 where
   pub answer : s .answer ≡ posted (p .caller) (p .command) (p .«data») (given accepted)
   pub register : s .mailbox .register ≡ m .register

@@ -82,7 +82,7 @@ deliveryOf f d =
     cond (f .interface) (answers f 3 0x85 d)  -- interface on: status 3
     (cond (not (eqb (d / 2 % 512) 0)) (answers f 0x1F 0x85 d)  -- else bits 9:1 not zero: 0x1F
     (whenSaved (keptFor f (idIn d) .descriptor) (answers f 2 0x85 d)  -- else no descriptor under that ID: 2
-    (answers (delivering f d) 0 0x85 d)))  -- else delivery set from bit 0
+    (answers (delivering f d) 0 0x85 d)))  -- else success, with delivery as bit 0 says
 
 -- ---- the rules by command
 unfoldable pub ruleOf : Firmware → (command d : ℕ) → Ran

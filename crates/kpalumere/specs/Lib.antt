@@ -1,3 +1,4 @@
-pub mod Images
+pub mod AsptTable
 pub mod GuidTable
+pub mod Images
 pub mod Writing

@@ -1,22 +1,21 @@
 -- A run of calls through lent words is the mailbox's own run, proved. Assumes nothing.
-use mathlib.Core.Path.{_≡_, refl, sym, ap, subst, _∙_}
+use mathlib.Core.Path.{_≡_, refl, sym, ap, _∙_}
 use mathlib.Core.Bool.{Bool}
-use mathlib.Core.List.{List, [], _∷_, _++_, append-nil}
-use Prim.Native.Nat.{ℕ, _≤_}
+use mathlib.Core.List.{List, [], _∷_, append-nil}
+use Prim.Native.Nat.{ℕ}
 use native.Mathlib.Omega.{arith}
-use lib.ListN.{length}
 use Rattle.reply.specs.Reply.{Reply, given, refused}
 use Rattle.lent.specs.Lent.{numberOf}
 use Rattle.mailbox.specs.declared.Mailbox.{Mailbox}
 use Rattle.mailbox.specs.Machine.{freshMailbox}
 use Rattle.mailbox.specs.Calls.{After, Accepted, postOf, loadOf, turnOf, unloadOf, takeOf}
-use Rattle.demand3.specs.Calls.{Call, post, load, turn, unload, take-word, Seen, seenAs, posted, loaded, turned, unloaded, took, callOf, numberIn}
+use Rattle.demand3.specs.Calls.{Call, post, load, turn, unload, take-word, callOf, numberIn}
 use Rattle.demand3.specs.Log.{Run, from, stepped, played}
 use Rattle.mailbox_words.specs.Layout.{packOf}
-use Rattle.mailbox_words.specs.Calls.{layAccepted, layActed, layWord, Left, freshWords}
+use Rattle.mailbox_words.specs.Calls.{layAccepted, layActed, layWord, Left}
 use Rattle.mailbox_words.specs.Typed.{Every, Typed}
-use Rattle.mailbox_words.specs.Faithful.{Room, valuesAfter, Through, Faithful, AllFaithful}
-use Rattle.mailbox_words.specs.Runs.{onWords, playedOn, valueSeen, Sixteen, SameRun, SameRuns}
+use Rattle.mailbox_words.specs.Faithful.{Room, valuesAfter, Through}
+use Rattle.mailbox_words.specs.Runs.{onWords, playedOn, valueSeen, Sixteen, SameRuns}
 use Rattle.mailbox_words.proofs.Faithful.{all-faithful}
 
 -- one lent word is room enough
@@ -44,8 +43,7 @@ module _ (m : Mailbox) (k : Typed m) (v : ℕ) where
   bare : {A : Type 0} (lay : A → List ℕ) (a : After (Reply A)) (on : (words values : List ℕ) → Left) → Through lay a on m → Room lay (a .answer) (v ∷ [])
       → (on (packOf m) (v ∷ []) .number ≡ numberOf (a .answer)) × (on (packOf m) (v ∷ []) .words ≡ packOf (a .mailbox)) × (on (packOf m) (v ∷ []) .values ≡ valuesAfter lay (a .answer) (v ∷ []))
   bare lay a on t room =
-      let e = append-nil (packOf m) in
-      (
+      let e = append-nil (packOf m) in (
         ap (λ l. on l (v ∷ []) .number) (sym e) ∙ t .number [] (v ∷ []) room,
         ap (λ l. on l (v ∷ []) .words) (sym e) ∙ t .words [] (v ∷ []) room ∙ append-nil (packOf (a .mailbox)),
         ap (λ l. on l (v ∷ []) .values) (sym e) ∙ t .values [] (v ∷ []) room,

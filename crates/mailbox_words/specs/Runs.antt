@@ -1,9 +1,7 @@
 -- A run of calls through lent words is the mailbox's own run, stated: so demand 3 holds of what a caller at the boundary sees. The proof stands in proofs/Runs.antt.
 use mathlib.Core.Path.{_≡_}
-use mathlib.Core.Bool.{Bool}
 use mathlib.Core.List.{List, [], _∷_}
 use Prim.Native.Nat.{ℕ, _<_}
-use Rattle.reply.specs.Reply.{Reply, given, refused}
 use Rattle.mailbox.specs.Machine.{freshMailbox}
 use Rattle.demand3.specs.Calls.{Call, post, load, turn, unload, take-word, Seen, posted, loaded, turned, unloaded, took, callOf, numberIn}
 use Rattle.demand3.specs.Log.{from, played}

@@ -8,6 +8,7 @@
 //! other. That is all that the library asks of its callers. It is proved to read and write nothing else.
 
 mod answer;
+mod aspt;
 mod build;
 mod checksum;
 mod flash;
@@ -18,6 +19,7 @@ mod sample;
 mod view;
 
 pub use answer::{Answer, Refusal};
+pub use aspt::{aspt_read, aspt_write, AsptStructure, AsptTable};
 pub use build::{extend, start, NewEntry};
 pub use checksum::checksum;
 pub use flash::{

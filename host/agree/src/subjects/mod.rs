@@ -2,6 +2,7 @@
 //!
 //! To add a subject, write its module with a `SUBJECT` and add it to [`SUBJECTS`].
 
+mod aspt;
 mod buffers;
 mod build;
 mod directory;
@@ -32,6 +33,7 @@ pub static SUBJECTS: &[Subject] = &[
     flash::SUBJECT,
     view::SUBJECT,
     build::SUBJECT,
+    aspt::SUBJECT,
     guids::SUBJECT,
     mailbox::SUBJECT,
 ];

@@ -3,6 +3,7 @@
 //! A subject is one module with a table of its calls. To add one, write the module, add its table to [`TABLES`] and what
 //! it keeps between calls to [`State`].
 
+mod aspt;
 mod buffers;
 mod build;
 pub mod call;
@@ -25,6 +26,7 @@ static TABLES: &[&[Call]] = &[
     &flash::CALLS,
     &view::CALLS,
     &build::CALLS,
+    &aspt::CALLS,
     &guids::CALLS,
     &mailbox::CALLS,
 ];

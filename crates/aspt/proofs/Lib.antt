@@ -1,0 +1,9 @@
+pub mod Loops
+pub mod Checks
+pub mod Fields
+pub mod Written
+pub mod Told
+pub mod Parts
+pub mod Accept
+pub mod Back
+pub mod Values

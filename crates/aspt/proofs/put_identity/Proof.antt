@@ -1,0 +1,33 @@
+use Rattle.aspt.proofs.Fields.{puts-all}
+use Rattle.aspt.specs.Bytes.{identityFields}
+use Rattle.aspt.specs.Field.{bytesOf}
+use Rattle.le.specs.Le.{leBytes}
+use denote.Ref.{now}
+use native.Mathlib.Omega.{arith}
+use borrow.Author.Needs.{needs}
+use Rattle.aspt.proofs.put_identity.Statement.{statement}
+use Rattle.aspt.proofs.put_identity.Tie as tie
+
+put32-requires : tie.Need-put32-requires
+put32-requires c κs = search needs
+
+put32-requires-2 : tie.Need-put32-requires-2
+put32-requires-2 c κs = search needs
+
+put8-requires : tie.Need-put8-requires
+put8-requires c κs = search needs
+
+put8-requires-2 : tie.Need-put8-requires-2
+put8-requires-2 c κs = search needs
+
+same-length : tie.Need-same-length
+same-length c = search needs
+
+returns : tie.Need-returns
+unfolding bytesOf leBytes
+returns c = cc (puts-all (identityFields 0) (now (c .before .before .before .before .before .before .before .before .before .before .before .before .before .before .before .before .before .args .buf)) 0 (omega arith))
+
+pub put-identity-spec : {M : Type 1} → statement M
+put-identity-spec =
+    tie.close
+    (tie.spec put32-requires put32-requires-2 put8-requires put8-requires-2 same-length returns)

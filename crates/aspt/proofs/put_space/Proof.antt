@@ -1,0 +1,31 @@
+use Rattle.aspt.proofs.Fields.{puts-all}
+use Rattle.aspt.specs.Bytes.{spaceFields}
+use Rattle.aspt.specs.Field.{bytesOf}
+use Rattle.le.specs.Le.{leBytes}
+use denote.Ref.{now}
+use native.Mathlib.Omega.{arith}
+use borrow.Author.Needs.{needs}
+use Rattle.aspt.proofs.put_space.Statement.{statement}
+use Rattle.aspt.proofs.put_space.Tie as tie
+
+put64-requires : tie.Need-put64-requires
+put64-requires c κs = search needs
+
+put32-requires : tie.Need-put32-requires
+put32-requires c κs = search needs
+
+put32-requires-2 : tie.Need-put32-requires-2
+put32-requires-2 c κs = search needs
+
+same-length : tie.Need-same-length
+same-length c = search needs
+
+returns : tie.Need-returns
+unfolding bytesOf leBytes
+returns c =
+    let a = c .before .before .before .before .before .before .before .before .before .before .before .before .before .args in
+    cc (puts-all (spaceFields (a .table)) (now (a .buf)) 36 (omega (arith, c .before .before .before .before .before .before .before .before .before .before .before .before .before .pre)))
+
+pub put-space-spec : {M : Type 1} → statement M
+put-space-spec =
+    tie.close (tie.spec put64-requires put32-requires put32-requires-2 same-length returns)

@@ -1,0 +1,34 @@
+use Rattle.aspt.proofs.Checks.{byte-one}
+use denote.Ref.{now}
+use borrow.Author.Needs.{needs}
+use Rattle.aspt.proofs.structure_in.Statement.{statement}
+use Rattle.aspt.proofs.structure_in.Tie as tie
+
+u16-at-requires : tie.Need-u16-at-requires
+u16-at-requires c κs = search needs
+
+byte-at-requires : tie.Need-byte-at-requires
+byte-at-requires c κs = search needs
+
+u32-at-requires : tie.Need-u32-at-requires
+u32-at-requires c κs = search needs
+
+u32-at-requires-2 : tie.Need-u32-at-requires-2
+u32-at-requires-2 c κs = search needs
+
+u32-at-requires-3 : tie.Need-u32-at-requires-3
+u32-at-requires-3 c κs = search needs
+
+returns : tie.Need-returns
+returns c = cc (byte-one (now (c .before .before .before .before .before .before .args .part)) 4)
+
+pub structure-in-spec : {M : Type 1} → statement M
+structure-in-spec =
+    tie.close
+    (tie.spec
+    u16-at-requires
+    byte-at-requires
+    u32-at-requires
+    u32-at-requires-2
+    u32-at-requires-3
+    returns)

@@ -1,0 +1,63 @@
+-- What makes a table good, as plain facts; and that the calls accept exactly that. Assumes nothing: definitions and statements.
+use Prim.Native.Nat.{ℕ, _+_, _*_, _%_, _^_, _≤_}
+use mathlib.Core.Path.{_≡_}
+use mathlib.Core.List.{List}
+use lib.ListN.{length, take}
+use Rattle.reply.specs.Reply.{given}
+use Rattle.aspt.specs.Field.{get}
+use Rattle.aspt.specs.Header as header
+use Rattle.aspt.specs.Part as part
+use Rattle.aspt.specs.Rules.{done, sumOf}
+use Rattle.aspt.specs.Bytes.{partOf, tableIn}
+use Rattle.aspt.specs.Calls.{readOf, writeOf}
+use Rattle.aspt.specs.declared.Structure.{Structure}
+use Rattle.aspt.specs.declared.Table.{Table}
+
+-- a structure of one of the three types, with type 1's ID byte, and with each register that its type has in the register space
+pub record GoodStructure (pages : ℕ) (st : Structure) : Type 0 where
+  pub type : st .kind ≤ 2
+  pub id : st .kind ≡ 1 → st .id ≡ 1
+  pub first : st .first + 4 ≤ 4096 * pages
+  pub second : (st .kind ≡ 2 → ⊥) → st .second + 4 ≤ 4096 * pages
+  pub third : (st .kind ≡ 2 → ⊥) → st .third + 4 ≤ 4096 * pages
+
+-- a table whose register space begins at a page and ends at 2^64 or before, with three good structures of different types
+pub record GoodTable (t : Table) : Type 0 where
+  pub aligned : t .base % 4096 ≡ 0
+  pub ends : t .base + 4096 * t .pages ≤ 2 ^ 64
+  pub first : GoodStructure (t .pages) (t .first)
+  pub second : GoodStructure (t .pages) (t .second)
+  pub third : GoodStructure (t .pages) (t .third)
+  pub first-second : t .first .kind ≡ t .second .kind → ⊥
+  pub first-third : t .first .kind ≡ t .third .kind → ⊥
+  pub second-third : t .second .kind ≡ t .third .kind → ⊥
+
+-- a structure's bytes with its length, and with zero in the reserved bytes of its type
+pub record GoodPart (p : List ℕ) : Type 0 where
+  pub long : get part.length p ≡ 20
+  pub type-0 : get part.kind p ≡ 0 → get part.reserved4 p ≡ 0
+  pub type-1 : get part.kind p ≡ 1 → get part.reserved5 p ≡ 0
+  pub type-2 : get part.kind p ≡ 2 → (get part.reserved4 p ≡ 0) × (get part.reserved12 p ≡ 0)
+
+-- the 112 bytes s hold the table t
+pub record Holds (s : List ℕ) (t : Table) : Type 0 where
+  pub signature : get header.signature s ≡ 0x54505341
+  pub long : get header.length s ≡ 112
+  pub revision : get header.revision s ≡ 2
+  pub sum : sumOf s % 256 ≡ 0
+  pub count : get header.count s ≡ 3
+  pub first : GoodPart (partOf 0 s)
+  pub second : GoodPart (partOf 1 s)
+  pub third : GoodPart (partOf 2 s)
+  pub table : t ≡ tableIn s
+  pub good : GoodTable t
+
+-- a table is read exactly where the first 112 lent bytes hold it
+pub record ReadAcceptance : Type 0 where
+  pub only : (s : List ℕ) (t : Table) → readOf s ≡ given t → (112 ≤ length s) × Holds (take 112 s) t
+  pub all : (s : List ℕ) (t : Table) → 112 ≤ length s → Holds (take 112 s) t → readOf s ≡ given t
+
+-- a table is written exactly where it is good and has room
+pub record WriteAcceptance : Type 0 where
+  pub only : (t : Table) (s : List ℕ) → writeOf t s ≡ done → GoodTable t × (112 ≤ length s)
+  pub all : (t : Table) (s : List ℕ) → GoodTable t → 112 ≤ length s → writeOf t s ≡ done

@@ -1,0 +1,488 @@
+// The AMD Secure Processor Table (source 000), an ACPI table of 112 bytes: read and written by document 01's rules.
+// The places of fields are those of the source's tables: Table 3, and for the structures Tables 5, 7 and 8.
+ghost use mathlib.Core.Path.{_≡_};
+ghost use mathlib.Core.Bool.{_&&_};
+ghost use mathlib.Core.List.{_++_};
+ghost use lib.ListN.{length, drop};
+ghost use lib.Dec.{leb, eqb};
+ghost use Prim.Native.Nat.{_+_, _*_, _%_, _^_, _≤_};
+ghost use Rattle.le.specs.Le.{putBytes};
+ghost use Rattle.aspt.specs.Field.{bytesOf};
+ghost use Rattle.aspt.specs.Rules.{done, sumOf, fresh, idFits, inSpace, registersFit, structureChecks, structuresChecks};
+ghost use Rattle.aspt.specs.Bytes.{structureIn, reservedZero, foundIn, tableWith, tableIn, asGiven, ownOf, partBytes, identityFields, makerFields, spaceFields, bytesWith, tableBytes};
+ghost use Rattle.aspt.specs.Calls.{headerChecks, structuresRead, tableOf, readOf, admitOf, writeOf, writtenBy, toldReading, toldVerdict};
+use reply::Refusal;
+
+// One of the three structures: its type, type 1's ID byte, and its register offsets in the order of the source's table.
+// A field that the type lacks is no part of it: read, it is 0; written, it is neither looked at nor kept.
+pub struct Structure {
+    pub kind: u16,
+    pub id: u8,
+    pub first: u32,
+    pub second: u32,
+    pub third: u32,
+}
+
+impl Structure {
+    // the types: ASP global registers, SEV mailbox registers, ACPI mailbox registers
+    pub const GLOBAL: u16 = 0;
+
+    pub const SEV: u16 = 1;
+
+    pub const ACPI: u16 = 2;
+}
+
+// What a table holds. The OEM ID's six bytes are the four of `oem_low` and the two of `oem_high`.
+pub struct Table {
+    pub oem_low: u32,
+    pub oem_high: u16,
+    pub oem_table: u64,
+    pub oem_revision: u32,
+    pub creator: u32,
+    pub creator_revision: u32,
+    pub base: u64,
+    pub pages: u32,
+    pub first: Structure,
+    pub second: Structure,
+    pub third: Structure,
+}
+
+impl Table {
+    // 'ASPT'
+    pub const SIGNATURE: u32 = 0x5450_5341;
+}
+
+// What a read answers.
+pub enum Reading {
+    Given(Table),
+    Refused(Refusal),
+}
+
+// What a write answers.
+pub enum Verdict {
+    Accepted,
+    Refused(Refusal),
+}
+
+// A structure as it stands before its checks: `sized` where its length is right, `clear` where its reserved bytes are zero.
+struct Found {
+    structure: Structure,
+    sized: bool,
+    clear: bool,
+}
+
+// The sum of the bytes, modulo 256.
+fn byte_sum(bytes: &[u8]) -> u8
+    ensures { λ r. ⌜ r ≡ sumOf (now (bytes .entry)) % 256 ⌝ }
+{
+    let mut sum: u8 = 0;
+    let mut i: usize = 0;
+    while i < bytes.len() {
+        sum = (((sum as u16) + (bytes[i] as u16)) % 256) as u8;
+        i += 1;
+    }
+    sum
+}
+
+// Is the type none of those seen before?
+fn is_fresh(kind: u16, seen: &[u16]) -> bool
+    ensures { λ r. ⌜ r ≡ fresh (now (seen .entry)) kind ⌝ }
+{
+    let mut i: usize = 0;
+    while i < seen.len() {
+        if seen[i] == kind {
+            return false;
+        }
+        i += 1;
+    }
+    true
+}
+
+// Does a structure have the right length and a type from 0 to 2 that was not seen before?
+fn kind_fits(f: Found, seen: &[u16]) -> bool
+    ensures { λ r. ⌜ r ≡ (f .sized && leb (f .structure .kind) 2 && fresh (now (seen .entry)) (f .structure .kind)) ⌝ }
+{
+    if f.sized {
+        let kind = f.structure.kind;
+        if kind <= Structure::ACPI {
+            is_fresh(kind, seen)
+        } else {
+            false
+        }
+    } else {
+        false
+    }
+}
+
+// Are the reserved bytes of a structure zero, and type 1's ID byte 0x01?
+fn fields_fit(f: Found) -> bool
+    ensures { λ r. ⌜ r ≡ (f .clear && idFits (f .structure)) ⌝ }
+{
+    if f.clear {
+        if f.structure.kind == Structure::SEV {
+            f.structure.id == 1
+        } else {
+            true
+        }
+    } else {
+        false
+    }
+}
+
+// Does a register of four bytes at this offset lie in the register space?
+fn in_space(pages: u32, offset: u32) -> bool
+    ensures { λ r. ⌜ r ≡ inSpace pages offset ⌝ }
+{
+    (offset as u64) + 4 <= 4096 * (pages as u64)
+}
+
+// Do the registers that a structure's type has lie in the register space?
+fn registers_fit(pages: u32, st: Structure) -> bool
+    ensures { λ r. ⌜ r ≡ registersFit pages st ⌝ }
+{
+    if in_space(pages, st.first) {
+        if st.kind == Structure::ACPI {
+            true
+        } else {
+            if in_space(pages, st.second) {
+                in_space(pages, st.third)
+            } else {
+                false
+            }
+        }
+    } else {
+        false
+    }
+}
+
+// The checks of one structure, given the types seen before it.
+fn check_structure(pages: u32, seen: &[u16], f: Found) -> Verdict
+    ensures { λ r. ⌜ toldVerdict r ≡ structureChecks pages (now (seen .entry)) f done ⌝ }
+{
+    if kind_fits(f, seen) {
+        if fields_fit(f) {
+            if registers_fit(pages, f.structure) {
+                Verdict::Accepted
+            } else {
+                Verdict::Refused(Refusal::OUTSIDE)
+            }
+        } else {
+            Verdict::Refused(Refusal::FIELD)
+        }
+    } else {
+        Verdict::Refused(Refusal::STRUCTURE)
+    }
+}
+
+// The checks of the three structures, one after the other.
+fn check_structures(pages: u32, a: Found, b: Found, c: Found) -> Verdict
+    ensures { λ r. ⌜ toldVerdict r ≡ structuresChecks pages a b c done ⌝ }
+{
+    let kinds = [a.structure.kind, b.structure.kind];
+    match check_structure(pages, &kinds[..0], a) {
+        Verdict::Refused(why) => Verdict::Refused(why),
+        Verdict::Accepted => match check_structure(pages, &kinds[..1], b) {
+            Verdict::Refused(why) => Verdict::Refused(why),
+            Verdict::Accepted => check_structure(pages, &kinds, c),
+        },
+    }
+}
+
+// Is the base address a multiple of 4,096, and does the register space end at 2^64 or before?
+// Counted in pages, of which 2^64 bytes are 2^52, since 2^64 itself is no u64.
+fn space_fits(base: u64, pages: u32) -> bool
+    ensures { λ r. ⌜ r ≡ (eqb (base % 4096) 0 && leb (base + 4096 * pages) (2 ^ 64)) ⌝ }
+{
+    if base % 4096 == 0 {
+        base / 4096 + (pages as u64) <= 0x10_0000_0000_0000
+    } else {
+        false
+    }
+}
+
+// The checks of a table's first 52 bytes.
+fn check_header(table: &[u8]) -> Verdict
+    ensures { λ r. ⌜ toldVerdict r ≡ headerChecks (now (table .entry)) done ⌝ }
+{
+    if le::u32_at(table, 0) != Table::SIGNATURE {
+        return Verdict::Refused(Refusal::SIGNATURE);
+    }
+    if le::u32_at(table, 4) != 112 {
+        return Verdict::Refused(Refusal::LIMITS);
+    }
+    if le::byte_at(table, 8) != 2 {
+        return Verdict::Refused(Refusal::FIELD);
+    }
+    if byte_sum(table) != 0 {
+        return Verdict::Refused(Refusal::CHECKSUM);
+    }
+    if space_fits(le::u64_at(table, 36), le::u32_at(table, 44)) {
+        if le::u32_at(table, 48) == 3 {
+            Verdict::Accepted
+        } else {
+            Verdict::Refused(Refusal::LIMITS)
+        }
+    } else {
+        Verdict::Refused(Refusal::FIELD)
+    }
+}
+
+// Are the reserved bytes of a structure zero?
+fn reserved_zero(part: &[u8]) -> bool
+    ensures { λ r. ⌜ r ≡ reservedZero (now (part .entry)) ⌝ }
+{
+    let kind = le::u16_at(part, 0);
+    if kind == Structure::SEV {
+        if le::u16_at(part, 5) == 0 {
+            le::byte_at(part, 7) == 0
+        } else {
+            false
+        }
+    } else {
+        if le::u32_at(part, 4) == 0 {
+            if kind == Structure::ACPI {
+                le::u64_at(part, 12) == 0
+            } else {
+                true
+            }
+        } else {
+            false
+        }
+    }
+}
+
+// A structure as its 20 bytes have it.
+fn structure_in(part: &[u8]) -> Structure
+    ensures { λ r. ⌜ r ≡ structureIn (now (part .entry)) ⌝ }
+{
+    Structure {
+        kind: le::u16_at(part, 0),
+        id: le::byte_at(part, 4),
+        first: le::u32_at(part, 8),
+        second: le::u32_at(part, 12),
+        third: le::u32_at(part, 16),
+    }
+}
+
+// A structure as it is found in its 20 bytes, before its checks.
+fn found_in(part: &[u8]) -> Found
+    ensures { λ r. ⌜ r ≡ foundIn (now (part .entry)) ⌝ }
+{
+    Found {
+        structure: structure_in(part),
+        sized: le::u16_at(part, 2) == 20,
+        clear: reserved_zero(part),
+    }
+}
+
+// The checks of a table's structures.
+fn check_parts(table: &[u8]) -> Verdict
+    requires { ⌜ length (now table) ≡ 112 ⌝ }
+    ensures { λ r. ⌜ toldVerdict r ≡ structuresRead (now (table .entry)) done ⌝ }
+{
+    check_structures(
+        le::u32_at(table, 44),
+        found_in(&table[52..72]),
+        found_in(&table[72..92]),
+        found_in(&table[92..112]),
+    )
+}
+
+// A table with these structures, as the bytes before them have it.
+fn table_with(table: &[u8], first: Structure, second: Structure, third: Structure) -> Table
+    ensures { λ r. ⌜ r ≡ tableWith (now (table .entry)) first second third ⌝ }
+{
+    Table {
+        oem_low: le::u32_at(table, 10),
+        oem_high: le::u16_at(table, 14),
+        oem_table: le::u64_at(table, 16),
+        oem_revision: le::u32_at(table, 24),
+        creator: le::u32_at(table, 28),
+        creator_revision: le::u32_at(table, 32),
+        base: le::u64_at(table, 36),
+        pages: le::u32_at(table, 44),
+        first,
+        second,
+        third,
+    }
+}
+
+// A table as its bytes have it.
+fn table_in(table: &[u8]) -> Table
+    requires { ⌜ length (now table) ≡ 112 ⌝ }
+    ensures { λ r. ⌜ r ≡ tableIn (now (table .entry)) ⌝ }
+{
+    table_with(
+        table,
+        structure_in(&table[52..72]),
+        structure_in(&table[72..92]),
+        structure_in(&table[92..112]),
+    )
+}
+
+// The table that 112 bytes hold.
+fn read_table(table: &[u8]) -> Reading
+    requires { ⌜ length (now table) ≡ 112 ⌝ }
+    ensures { λ r. ⌜ toldReading r ≡ tableOf (now (table .entry)) ⌝ }
+{
+    match check_header(table) {
+        Verdict::Refused(why) => Reading::Refused(why),
+        Verdict::Accepted => match check_parts(table) {
+            Verdict::Refused(why) => Reading::Refused(why),
+            Verdict::Accepted => Reading::Given(table_in(table)),
+        },
+    }
+}
+
+// Reads the table from the first 112 lent bytes; more are ignored.
+pub fn read(bytes: &[u8]) -> Reading
+    ensures { λ r. ⌜ toldReading r ≡ readOf (now (bytes .entry)) ⌝ }
+{
+    let lent = bytes.len();
+    if lent < 112 {
+        return Reading::Refused(Refusal::SHORT);
+    }
+    read_table(&bytes[..112])
+}
+
+// A structure as a writer is given it: length and reserved bytes are the writer's.
+fn as_given(st: Structure) -> Found
+    ensures { λ r. ⌜ r ≡ asGiven st ⌝ }
+{
+    Found {
+        structure: st,
+        sized: true,
+        clear: true,
+    }
+}
+
+// The checks of a table that is to be written.
+fn admit(table: Table) -> Verdict
+    ensures { λ r. ⌜ toldVerdict r ≡ admitOf table ⌝ }
+{
+    if space_fits(table.base, table.pages) {
+        check_structures(
+            table.pages,
+            as_given(table.first),
+            as_given(table.second),
+            as_given(table.third),
+        )
+    } else {
+        Verdict::Refused(Refusal::FIELD)
+    }
+}
+
+// A structure with the fields that its type has, and 0 in those that it lacks.
+fn own(st: Structure) -> Structure
+    ensures { λ r. ⌜ r ≡ ownOf st ⌝ }
+{
+    if st.kind == Structure::SEV {
+        return st;
+    }
+    if st.kind == Structure::ACPI {
+        return Structure {
+            kind: st.kind,
+            id: 0,
+            first: st.first,
+            second: 0,
+            third: 0,
+        };
+    }
+    Structure {
+        kind: st.kind,
+        id: 0,
+        first: st.first,
+        second: st.second,
+        third: st.third,
+    }
+}
+
+// Writes a structure's 20 bytes.
+fn put_structure(part: &mut [u8], st: Structure)
+    requires { ⌜ length (now part) ≡ 20 ⌝ }
+    ensures { λ _. ⌜ now (part .exit) ≡ partBytes st ⌝ }
+{
+    let has = own(st);
+    le::put16(part, 0, has.kind);
+    le::put16(part, 2, 20);
+    le::put8(part, 4, has.id);
+    le::put16(part, 5, 0);
+    le::put8(part, 7, 0);
+    le::put32(part, 8, has.first);
+    le::put32(part, 12, has.second);
+    le::put32(part, 16, has.third);
+}
+
+// Writes what the table is: signature, length, revision, and a checksum of 0.
+fn put_identity(buf: &mut [u8])
+    requires { ⌜ 112 ≤ length (now buf) ⌝ }
+    ensures { λ _. ⌜ now (buf .exit) ≡ putBytes (bytesOf (identityFields 0)) (now (buf .entry)) 0 ⌝ }
+{
+    le::put32(buf, 0, Table::SIGNATURE);
+    le::put32(buf, 4, 112);
+    le::put8(buf, 8, 2);
+    le::put8(buf, 9, 0);
+}
+
+// Writes who made the table.
+fn put_maker(buf: &mut [u8], table: Table)
+    requires { ⌜ 112 ≤ length (now buf) ⌝ }
+    ensures { λ _. ⌜ now (buf .exit) ≡ putBytes (bytesOf (makerFields table)) (now (buf .entry)) 10 ⌝ }
+{
+    le::put32(buf, 10, table.oem_low);
+    le::put16(buf, 14, table.oem_high);
+    le::put64(buf, 16, table.oem_table);
+    le::put32(buf, 24, table.oem_revision);
+    le::put32(buf, 28, table.creator);
+    le::put32(buf, 32, table.creator_revision);
+}
+
+// Writes the register space, and how many structures follow.
+fn put_space(buf: &mut [u8], table: Table)
+    requires { ⌜ 112 ≤ length (now buf) ⌝ }
+    ensures { λ _. ⌜ now (buf .exit) ≡ putBytes (bytesOf (spaceFields table)) (now (buf .entry)) 36 ⌝ }
+{
+    le::put64(buf, 36, table.base);
+    le::put32(buf, 44, table.pages);
+    le::put32(buf, 48, 3);
+}
+
+// Writes the table's 112 bytes, with a checksum of 0.
+fn put_fields(buf: &mut [u8], table: Table)
+    requires { ⌜ 112 ≤ length (now buf) ⌝ }
+    ensures { λ _. ⌜ now (buf .exit) ≡ bytesWith 0 table ++ drop 112 (now (buf .entry)) ⌝ }
+{
+    put_identity(buf);
+    put_maker(buf, table);
+    put_space(buf, table);
+    put_structure(&mut buf[52..72], table.first);
+    put_structure(&mut buf[72..92], table.second);
+    put_structure(&mut buf[92..112], table.third);
+}
+
+// Writes the table's 112 bytes: the checksum last, when the others stand.
+fn put_table(buf: &mut [u8], table: Table)
+    requires { ⌜ 112 ≤ length (now buf) ⌝ }
+    ensures { λ _. ⌜ now (buf .exit) ≡ tableBytes table ++ drop 112 (now (buf .entry)) ⌝ }
+{
+    put_fields(buf, table);
+    let sum = byte_sum(&buf[..112]);
+    le::put8(buf, 9, ((256 - (sum as u16)) % 256) as u8);
+}
+
+// Writes a table into the buffer's first 112 bytes and keeps the bytes after them; a refused write changes nothing.
+pub fn write(buf: &mut [u8], table: Table) -> Verdict
+    ensures { λ r. ⌜ toldVerdict r ≡ writeOf table (now (buf .entry)) ⌝ }
+    ensures { λ _. ⌜ now (buf .exit) ≡ writtenBy table (now (buf .entry)) (writeOf table (now (buf .entry))) ⌝ }
+{
+    match admit(table) {
+        Verdict::Refused(why) => Verdict::Refused(why),
+        Verdict::Accepted => {
+            if buf.len() < 112 {
+                return Verdict::Refused(Refusal::ROOM);
+            }
+            put_table(buf, table);
+            Verdict::Accepted
+        }
+    }
+}

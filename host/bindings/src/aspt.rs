@@ -1,0 +1,247 @@
+//! The AMD Secure Processor Table: read from lent bytes, and written into them.
+//!
+//! A table crosses the boundary as 22 words: the OEM ID and the OEM table ID, each as a number from its lowest byte on, OEM
+//! revision, creator, creator revision, base and pages; then for each structure its type, ID byte and three register offsets.
+
+use crate::answer::{answer_of, done_by, Answer};
+
+extern "C" {
+    fn kpalumere_aspt_read(
+        bytes: *const u8,
+        bytes_len: usize,
+        words: *mut u64,
+        words_len: usize,
+    ) -> u64;
+
+    fn kpalumere_aspt_write(
+        buf: *mut u8,
+        buf_len: usize,
+        words: *const u64,
+        words_len: usize,
+    ) -> u64;
+}
+
+/// How many words a table takes, and from which on the structures stand.
+const ALL: usize = 22;
+const STRUCTURES: usize = 7;
+
+/// What a table holds besides what is the same in every table.
+#[derive(Clone, Copy, Debug, PartialEq, Eq)]
+pub struct AsptTable {
+    pub oem: [u8; 6],
+    pub oem_table: [u8; 8],
+    pub oem_revision: u32,
+    pub creator: u32,
+    pub creator_revision: u32,
+    pub base: u64,
+    pub pages: u32,
+    /// The three structures in their order.
+    pub structures: [AsptStructure; 3],
+}
+
+/// A structure of the table. A field that its type lacks is no part of it: it is read as 0, and not written.
+#[derive(Clone, Copy, Debug, PartialEq, Eq)]
+pub struct AsptStructure {
+    /// Its type, a word that Rust keeps for itself.
+    pub kind: u16,
+    pub id: u8,
+    /// The register offsets in the order of the source's table.
+    pub registers: [u32; 3],
+}
+
+/// Reads the table in the first 112 bytes.
+pub fn aspt_read(bytes: &[u8]) -> Answer<AsptTable> {
+    answer_of(|words| read_into(bytes, words), AsptTable::of_words)
+}
+
+/// Writes a table over the buffer's first 112 bytes.
+pub fn aspt_write(buffer: &mut [u8], table: &AsptTable) -> Answer<()> {
+    done_by(write_from(buffer, &table.words()))
+}
+
+impl AsptTable {
+    fn of_words(words: &[u64; ALL]) -> AsptTable {
+        let structure = |at: usize| AsptStructure {
+            kind: words[at] as u16,
+            id: words[at + 1] as u8,
+            registers: [2, 3, 4].map(|field| words[at + field] as u32),
+        };
+        let [o0, o1, o2, o3, o4, o5, ..] = words[0].to_le_bytes();
+        AsptTable {
+            oem: [o0, o1, o2, o3, o4, o5],
+            oem_table: words[1].to_le_bytes(),
+            oem_revision: words[2] as u32,
+            creator: words[3] as u32,
+            creator_revision: words[4] as u32,
+            base: words[5],
+            pages: words[6] as u32,
+            structures: [0, 1, 2].map(|i| structure(STRUCTURES + 5 * i)),
+        }
+    }
+
+    fn words(&self) -> [u64; ALL] {
+        let mut words = [0; ALL];
+        let [o0, o1, o2, o3, o4, o5] = self.oem;
+        words[..STRUCTURES].copy_from_slice(&[
+            u64::from_le_bytes([o0, o1, o2, o3, o4, o5, 0, 0]),
+            u64::from_le_bytes(self.oem_table),
+            u64::from(self.oem_revision),
+            u64::from(self.creator),
+            u64::from(self.creator_revision),
+            self.base,
+            u64::from(self.pages),
+        ]);
+        for (part, structure) in words[STRUCTURES..].chunks_mut(5).zip(&self.structures) {
+            part[0] = u64::from(structure.kind);
+            part[1] = u64::from(structure.id);
+            for (word, register) in part[2..].iter_mut().zip(structure.registers) {
+                *word = u64::from(register);
+            }
+        }
+        words
+    }
+}
+
+// The exported calls, with the words as a caller lends them.
+
+fn read_into(bytes: &[u8], words: &mut [u64]) -> u64 {
+    // SAFETY: lent slices, as the crate's page says.
+    unsafe { kpalumere_aspt_read(bytes.as_ptr(), bytes.len(), words.as_mut_ptr(), words.len()) }
+}
+
+fn write_from(buffer: &mut [u8], words: &[u64]) -> u64 {
+    // SAFETY: lent slices, as the crate's page says.
+    unsafe {
+        kpalumere_aspt_write(
+            buffer.as_mut_ptr(),
+            buffer.len(),
+            words.as_ptr(),
+            words.len(),
+        )
+    }
+}
+
+#[cfg(test)]
+mod tests {
+    use super::*;
+    use crate::answer::Refusal;
+
+    /// A table in which no two fields have the same value.
+    fn table() -> AsptTable {
+        let structure = |kind, id, registers| AsptStructure {
+            kind,
+            id,
+            registers,
+        };
+        AsptTable {
+            oem: *b"AMDINC",
+            oem_table: *b"AMDICRB\0",
+            oem_revision: 0x1234_5678,
+            creator: 0x9ABC_DEF0,
+            creator_revision: 0x0FED_CBA9,
+            base: 0x0123_4567_89AB_C000,
+            pages: 0x10,
+            structures: [
+                structure(1, 1, [0x20, 0x24, 0x28]),
+                structure(2, 0, [0x2C, 0, 0]),
+                structure(0, 0, [0x10, 0x14, 0xFFFC]),
+            ],
+        }
+    }
+
+    #[test]
+    fn a_table_that_was_written_is_read_back() {
+        let mut buffer = [0xEE; 120];
+        assert_eq!(aspt_write(&mut buffer, &table()), Ok(()));
+        assert_eq!(aspt_read(&buffer), Ok(table()));
+        assert_eq!(buffer[..4], *b"ASPT");
+        assert_eq!(buffer[10..24], *b"AMDINCAMDICRB\0");
+        assert_eq!(buffer[24..28], [0x78, 0x56, 0x34, 0x12]);
+        assert_eq!(buffer[36..44], 0x0123_4567_89AB_C000u64.to_le_bytes());
+        assert_eq!(buffer[52..57], [1, 0, 20, 0, 1]);
+        assert_eq!(
+            buffer[60..72],
+            [0x20, 0, 0, 0, 0x24, 0, 0, 0, 0x28, 0, 0, 0]
+        );
+        assert_eq!(buffer[112..], [0xEE; 8]);
+        let sum = buffer[..112]
+            .iter()
+            .fold(0u8, |sum, b| sum.wrapping_add(*b));
+        assert_eq!(sum, 0);
+    }
+
+    #[test]
+    fn a_field_that_the_type_lacks_is_not_written() {
+        let mut given = table();
+        given.structures[1].id = 9;
+        given.structures[1].registers = [0x2C, 0xFFFF_FFFF, 7];
+        given.structures[2].id = 9;
+        let mut buffer = [0; 112];
+        assert_eq!(aspt_write(&mut buffer, &given), Ok(()));
+        assert_eq!(aspt_read(&buffer), Ok(table()));
+    }
+
+    #[test]
+    fn a_refused_write_keeps_every_byte() {
+        let mut buffer = [0x11; 112];
+        let kept = buffer;
+        let answer = aspt_write(&mut buffer[..111], &table());
+        assert_eq!(answer, Err(Refusal::alone(12)));
+        let mut bad = table();
+        bad.base += 1;
+        assert_eq!(aspt_write(&mut buffer, &bad), Err(Refusal::alone(5)));
+        let mut bad = table();
+        bad.structures[2].kind = 0x102;
+        assert_eq!(aspt_write(&mut buffer, &bad), Err(Refusal::alone(6)));
+        let mut bad = table();
+        bad.structures[2].registers[2] = 0xFFFD;
+        assert_eq!(aspt_write(&mut buffer, &bad), Err(Refusal::alone(7)));
+        assert_eq!(buffer, kept);
+    }
+
+    #[test]
+    fn a_damaged_table_is_refused() {
+        let mut buffer = [0; 112];
+        assert_eq!(aspt_write(&mut buffer, &table()), Ok(()));
+        assert_eq!(aspt_read(&buffer[..111]), Err(Refusal::alone(1)));
+        buffer[111] ^= 1;
+        assert_eq!(aspt_read(&buffer), Err(Refusal::alone(4)));
+        buffer[0] ^= 1;
+        assert_eq!(aspt_read(&buffer), Err(Refusal::alone(2)));
+    }
+
+    #[test]
+    fn without_room_for_the_words_the_answer_is_12_and_none_is_written() {
+        let mut buffer = [0; 112];
+        assert_eq!(aspt_write(&mut buffer, &table()), Ok(()));
+        let mut words = [7; ALL + 1];
+        assert_eq!(read_into(&buffer, &mut words[..ALL - 1]), 12);
+        assert_eq!(words, [7; ALL + 1]);
+        assert_eq!(read_into(&buffer, &mut words), 0);
+        assert_eq!(words[ALL], 7);
+    }
+
+    #[test]
+    fn words_that_are_no_table_are_refused() {
+        let mut buffer = [0x11; 112];
+        let kept = buffer;
+        let words = table().words();
+        assert_eq!(write_from(&mut buffer, &words[..ALL - 1]), 1);
+        for (at, bits) in [
+            (0, 48),
+            (2, 32),
+            (6, 32),
+            (7, 16),
+            (8, 8),
+            (9, 32),
+            (21, 32),
+        ] {
+            let mut wide = words;
+            wide[at] |= 1 << bits;
+            assert_eq!(write_from(&mut buffer, &wide), 5, "word {at}");
+        }
+        assert_eq!(buffer, kept);
+        assert_eq!(write_from(&mut buffer, &[&words[..], &[7]].concat()), 0);
+        assert_eq!(aspt_read(&buffer), Ok(table()));
+    }
+}
