@@ -24,7 +24,7 @@ reservedZero p =
 
 -- a structure as it is found in its 20 bytes, before its checks
 unfoldable pub foundIn : List ℕ → Found
-foundIn p = record { structure = structureIn p; sized = eqb (get part.length p) 20; clear = reservedZero p }
+foundIn p = record { structure = structureIn p; sized = eqb (get part.wholeLength p) 20; clear = reservedZero p }
 
 -- a structure as a writer is given it: length and reserved bytes are the writer's
 abbrev pub asGiven : Structure → Found
@@ -67,7 +67,7 @@ ownOf st = record {
 -- a structure's 20 bytes; its reserved bytes are zero, since a field that the type lacks is 0
 abbrev pub partFields : Structure → List Filled
 partFields st =
-    filled part.kind (st .kind) ∷ filled part.length 20 ∷ filled part.id (st .id) ∷ filled part.reserved5 0
+    filled part.kind (st .kind) ∷ filled part.wholeLength 20 ∷ filled part.id (st .id) ∷ filled part.reserved5 0
     ∷ filled part.first (st .first) ∷ filled part.second (st .second) ∷ filled part.third (st .third) ∷ []
 
 unfoldable pub partBytes : Structure → List ℕ
@@ -75,7 +75,7 @@ partBytes st = bytesOf (partFields (ownOf st))
 
 -- the bytes before the structures: what the table is, with a checksum; who made it; the register space, and how many structures follow
 abbrev pub identityFields : ℕ → List Filled
-identityFields sum = filled header.signature 0x54505341 ∷ filled header.length 112 ∷ filled header.revision 2 ∷ filled header.checksum sum ∷ []
+identityFields sum = filled header.signature 0x54505341 ∷ filled header.wholeLength 112 ∷ filled header.revision 2 ∷ filled header.checksum sum ∷ []
 
 abbrev pub makerFields : Table → List Filled
 makerFields t =

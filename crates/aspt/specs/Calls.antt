@@ -18,7 +18,7 @@ use Rattle.aspt.specs.declared.Verdict.the-variants as verdict
 unfoldable pub headerChecks : {A : Type 0} → List ℕ → Reply A → Reply A
 headerChecks s rest =
     guard (eqb (get header.signature s) 0x54505341) 2  -- 'ASPT' (2)
-    (guard (eqb (get header.length s) 112) 3  -- Length 112 (3)
+    (guard (eqb (get header.wholeLength s) 112) 3  -- Length 112 (3)
     (guard (eqb (get header.revision s) 2) 5  -- Revision 2 (5)
     (guard (eqb (sumOf s % 256) 0) 4  -- all 112 bytes sum to 0 modulo 256 (4)
     (spaceChecks (get header.base s) (get header.pages s)  -- base address and end of the register space (5)

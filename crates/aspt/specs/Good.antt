@@ -34,7 +34,7 @@ pub record GoodTable (t : Table) : Type 0 where
 
 -- a structure's bytes with its length, and with zero in the reserved bytes of its type
 pub record GoodPart (p : List ℕ) : Type 0 where
-  pub long : get part.length p ≡ 20
+  pub long : get part.wholeLength p ≡ 20
   pub type-0 : get part.kind p ≡ 0 → get part.reserved4 p ≡ 0
   pub type-1 : get part.kind p ≡ 1 → get part.reserved5 p ≡ 0
   pub type-2 : get part.kind p ≡ 2 → (get part.reserved4 p ≡ 0) × (get part.reserved12 p ≡ 0)
@@ -42,7 +42,7 @@ pub record GoodPart (p : List ℕ) : Type 0 where
 -- the 112 bytes s hold the table t
 pub record Holds (s : List ℕ) (t : Table) : Type 0 where
   pub signature : get header.signature s ≡ 0x54505341
-  pub long : get header.length s ≡ 112
+  pub long : get header.wholeLength s ≡ 112
   pub revision : get header.revision s ≡ 2
   pub sum : sumOf s % 256 ≡ 0
   pub count : get header.count s ≡ 3

@@ -4,8 +4,8 @@ use Rattle.aspt.specs.Field.{Field, field}
 abbrev pub signature : Field
 signature = field 4 0
 
-abbrev pub length : Field
-length = field 4 4
+abbrev pub wholeLength : Field
+wholeLength = field 4 4
 
 abbrev pub revision : Field
 revision = field 1 8

@@ -4,8 +4,8 @@ use Rattle.aspt.specs.Field.{Field, field}
 abbrev pub kind : Field
 kind = field 2 0
 
-abbrev pub length : Field
-length = field 2 2
+abbrev pub wholeLength : Field
+wholeLength = field 2 2
 
 -- the ID byte that type 1 has
 abbrev pub id : Field
