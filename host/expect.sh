@@ -1,4 +1,4 @@
-# Counts what is expected of a script. Sourced by tool-check.sh and gate-check.sh.
+# Counts what is expected of a script. Sourced by docs-check.sh, tool-check.sh and gate-check.sh.
 # shellcheck shell=bash
 good=0 bad=0
 
