@@ -421,6 +421,42 @@ mod tests {
     }
 
     #[test]
+    fn a_place_and_its_post_belong_together_and_the_line_has_eight() {
+        let post = Post {
+            caller: 2,
+            command: 0x81,
+            data: 0,
+        };
+        let mut waits = [Place::Free; 8];
+        waits[2] = Place::Waiting;
+        let whole = Mailbox::of(&[post], Register::Idle, waits);
+        let mark_alone = Mailbox::of(&[], Register::Idle, waits);
+        let post_alone = Mailbox::of(&[post], Register::Idle, [Place::Free; 8]);
+        let mut nine = whole.clone();
+        nine.words[COUNT] = 9;
+        for mut broken in [mark_alone, post_alone, nine] {
+            let kept = broken.clone();
+            assert_eq!(broken.load(), Err(Refusal::alone(5)));
+            assert_eq!(broken, kept);
+        }
+        let mut unused_slot = whole;
+        unused_slot.words[LINE.start + 1] = u64::MAX;
+        assert_eq!(unused_slot.load(), Ok(true));
+    }
+
+    #[test]
+    fn three_held_parts_are_allowed_and_saved_when_the_next_comes() {
+        let mut mailbox = Mailbox::fresh();
+        for (word, part) in mailbox.words[HELD].iter_mut().zip([1, 2, 0x400]) {
+            *word = 0x1_0000 + part;
+        }
+        assert_eq!(round(&mut mailbox, 0x0083_0007), 0x8083_0007);
+        let firmware = mailbox.firmware();
+        assert_eq!(firmware.held, [None; 3]);
+        assert_eq!(firmware.interrupts[1].descriptor, Some([1, 7, 0x400]));
+    }
+
+    #[test]
     fn words_that_are_no_mailbox_and_missing_room_change_nothing() {
         let mut words = Mailbox::of(&[], Register::Idle, [Place::Ready(3); 8]).words;
         let kept = words;
