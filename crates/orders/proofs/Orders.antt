@@ -1,0 +1,44 @@
+-- Every order's rows, by evaluation. Assumes nothing.
+use mathlib.Core.Path.{refl}
+use Rattle.le.specs.Le.{leAt, leBytes, putBytes}
+use Rattle.fletcher.specs.Fletcher.{wordsAt, sumOf as wordSum, weightedOf, fletcherOf}
+use Rattle.window.specs.Window.{offsetIn}
+use Rattle.reply.specs.Scan.{scan}
+use Rattle.directory.specs.Directory.{directoryAt, directoryByCookie}
+use Rattle.directory.specs.Part.{within, leadsTo, rangedAt, partOf}
+use Rattle.flash.specs.Efs.{candidateAt, pointerTo, pointerOf}
+use Rattle.flash.specs.Flash.{flashDirectory}
+use Rattle.place.specs.Place.{placedAt}
+use Rattle.build.specs.Write.{entryBytes, startOf, roomFor}
+use Rattle.aspt.specs.Field.{bytesOf}
+use Rattle.aspt.specs.Rules.{sumOf, fresh, idFits, registersFit, structureChecks, structuresChecks}
+use Rattle.aspt.specs.Bytes.{reservedZero, foundIn, ownOf, partBytes, bytesWith, tableBytes}
+use Rattle.aspt.specs.Calls.{headerChecks, tableOf, readOf, admitOf, writeOf}
+use Rattle.guids.specs.Table.{footer, headerOf, lengthBefore, entriesIn}
+use Rattle.guids.specs.Write.{startOf as guidStartOf, allZero, roomFor as guidRoomFor}
+use Rattle.firmware.specs.Word.{wordOf}
+use Rattle.firmware.specs.Rules.{deliveryOf, ruleOf}
+use Rattle.mailbox.specs.Consistent.{fitPosts, fitRegister, timesIn, inRegister, allBelow, consistentOf}
+use Rattle.mailbox.specs.Calls.{postOf, takeOf}
+use Rattle.orders.specs.Orders.{Orders}
+
+pub orders : Orders
+unfolding leAt leBytes putBytes wordsAt wordSum weightedOf fletcherOf offsetIn scan directoryAt directoryByCookie within leadsTo rangedAt partOf candidateAt pointerTo pointerOf flashDirectory placedAt entryBytes startOf roomFor bytesOf sumOf fresh idFits registersFit structureChecks structuresChecks reservedZero foundIn ownOf partBytes bytesWith tableBytes headerChecks tableOf readOf admitOf writeOf footer headerOf lengthBefore entriesIn guidStartOf allZero guidRoomFor wordOf deliveryOf ruleOf fitPosts fitRegister timesIn inRegister allBelow consistentOf postOf takeOf
+orders = record {
+  directory = refl;
+  limit = refl;
+  flash = refl;
+  part = refl;
+  place = refl;
+  start = refl;
+  extend = refl;
+  room = refl;
+  aspt-read = refl;
+  aspt-write = refl;
+  guids = refl;
+  guid-start = refl;
+  guid-room = refl;
+  post = refl;
+  take = refl;
+  status = refl;
+}

@@ -1,0 +1,4 @@
+pub mod Images
+pub mod Tables
+pub mod Mailboxes
+pub mod Orders
