@@ -47,7 +47,7 @@ all_there() {
 rows_under() { awk -v wanted="$2" '/^## / { on = $0 ~ wanted } on && /^\| / && !/^\|---/' "docs/$1"; } # PAGE PATTERN
 
 # One column of the tables under a crate's heading in PROMISES.md, counted from the left, or from the right where it is below 0.
-column() { rows_under PROMISES.md "^## $1\$" | awk -F' *[|] *' -v k="$2" '{ print k < 0 ? $(NF + k) : $(k + 1) }' | quoted; } # CRATE COLUMN
+cells() { rows_under PROMISES.md "^## $1\$" | awk -F' *[|] *' -v k="$2" '{ print k < 0 ? $(NF + k) : $(k + 1) }' | quoted; } # CRATE COLUMN
 
 calls_of() { grep -rhoE '\bpub (extern "C" )?fn [a-z0-9_]+' "crates/$1/src" | awk '{ print $NF }' | sort; } # CRATE
 edits_of() { find "crates/$1/must-fail" -name '*.edit' 2>/dev/null | sed 's:.*/::; s:\.edit$::' | sort; } # CRATE
@@ -55,11 +55,11 @@ edits_of() { find "crates/$1/must-fail" -name '*.edit' 2>/dev/null | sed 's:.*/:
 # A crate's calls and edits are those of its tables, no more and no fewer, and each definition in its promises is one that it uses.
 crate_is_told() { # CRATE
     local word lost=0
-    diff <(calls_of "$1") <(column "$1" 1 | sed 's/.*:://' | sort -u) || { echo "< a call of $1, > a call in docs/PROMISES.md"; lost=1; }
-    diff <(edits_of "$1") <(column "$1" -1 | sort -u) || { echo "< an edit of $1, > an edit in docs/PROMISES.md"; lost=1; }
+    diff <(calls_of "$1") <(cells "$1" 1 | sed 's/.*:://' | sort -u) || { echo "< a call of $1, > a call in docs/PROMISES.md"; lost=1; }
+    diff <(edits_of "$1") <(cells "$1" -1 | sort -u) || { echo "< an edit of $1, > an edit in docs/PROMISES.md"; lost=1; }
     while IFS= read -r word; do
         [ "$word" = s ] || grep -rqwF -- "$word" "crates/$1/src" || { printf 'the contracts of %s do not use %s\n' "$1" "$word"; lost=1; }
-    done < <(column "$1" 2; column "$1" 3)
+    done < <(cells "$1" 2; cells "$1" 3)
     [ "$lost" -eq 0 ]
 }
 

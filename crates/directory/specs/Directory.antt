@@ -17,7 +17,7 @@ use Rattle.directory.specs.declared.Checked.the-variants as checked
 abbrev pub pspKind : Kind
 pspKind = record { one = 0x5053_5024; two = 0x324C_5024; entry = 16; lead = 0x40; value = 0x0B; clear = 1 }
 
--- the cookie of a level: one of level one, another of level two
+-- the cookie of a level: `one` of level one, `two` of level two; no other level is asked for (flashDirectory: 9)
 abbrev pub cookieOf : Kind → ℕ → ℕ
 cookieOf kind level = cond (eqb level 1) (kind .one) (kind .two)
 
@@ -33,7 +33,7 @@ entryPlace kind o i = o + 16 + i * kind .entry
 abbrev pub checksumAt : Kind → List ℕ → ℕ → ℕ → ℕ
 checksumAt kind image o n = fletcherOf (take (8 + n * kind .entry) (drop (o + 8) image))
 
--- the reserved bits of the entry at e are zero
+-- the reserved bits of the entry at e are zero: its 16 bits at 2 are below `clear`, which is 1 where all of them are reserved
 abbrev pub reservedZero : Kind → List ℕ → ℕ → Bool
 reservedZero kind image e = ltb (leAt 2 image (e + 2)) (kind .clear)
 

@@ -8,7 +8,7 @@ pub data Carried : Type 0 where
   alone : Carried
   tested : ℕ → Carried
 
--- what a call answers: what it gives, or the paper's number with what that number carries
+-- what a call answers: what it gives, or document 01's number with what that number carries
 pub data Reply (A : Type 0) : Type 0 where
   given : A → Reply A
   refused : (number : ℕ) → Carried → Reply A
