@@ -45,6 +45,22 @@ uint64_t kpalumere_checksum(const uint8_t *bytes, size_t bytes_len, uint64_t *wo
  * two). What a call answers besides stands with it. Places are offsets into the image.
  */
 
+/* The EFS and its two directory pointers as they stand: the early one at 0x10, the late one at 0x14. It asks neither for a
+ * pointer nor for a directory, so only 15 and 2 of the refusals above are answered.
+ *
+ * Answers 0 and words[0] = the EFS's place, words[1] = its early pointer, words[2] = its late pointer; 12 where words_len is
+ * below 3.
+ */
+uint64_t kpalumere_efs(const uint8_t *image, size_t image_len, uint64_t *words, size_t words_len);
+
+/* The directory pointer, and where it leads: the late one, or the early one where that is absent. It asks for no directory, so
+ * only 15, 2, 8 (both are absent) and 7 of the refusals above are answered.
+ *
+ * Answers 0 and words[0] = the offset of its field in the EFS (0x10 or 0x14), words[1] = its value as it stands there,
+ * words[2] = the place where it leads, which is where level one begins; 12 where words_len is below 3.
+ */
+uint64_t kpalumere_pointer(const uint8_t *image, size_t image_len, uint64_t *words, size_t words_len);
+
 /* The directory of a level.
  *
  * Answers 0 and words[0] = its place, words[1] = its level, words[2] = its total; 12 where words_len is below 3.
@@ -85,6 +101,17 @@ uint64_t kpalumere_find(const uint8_t *image, size_t image_len, uint32_t level, 
  */
 uint64_t kpalumere_find_image(const uint8_t *image, size_t image_len, uint8_t type, uint8_t sub, uint64_t *words,
                               size_t words_len);
+
+/* ---- Firmware binaries ---- */
+
+/* The firmware version in the 256-byte header that a firmware binary begins with: the four bytes at 0x60, a little-endian
+ * number. People are shown its bytes from the highest on: 0x00080174 is 00.08.01.74. `bytes` are the binary's; those behind
+ * the header have no part in it.
+ *
+ * Answers 0 and words[0] = the version; 1 where there are fewer than 256 bytes; 2 where the header's mark, "$PS1" at 0x10, is
+ * not there; 12 where words_len is 0.
+ */
+uint64_t kpalumere_version(const uint8_t *bytes, size_t bytes_len, uint64_t *words, size_t words_len);
 
 /* ---- Views ----
  *

@@ -55,6 +55,16 @@ static void check_flash(void)
     const uint8_t *image = board(&length);
     uint64_t words[6] = {0, 0, 0, 0, 0, 7};
 
+    expect("the EFS is found", 0, kpalumere_efs(image, length, words, 3));
+    expect("its place", 0x20000, words[0]);
+    expect("its early pointer", 0, words[1]);
+    expect("its late pointer", 0x200, words[2]);
+    expect("without its last byte it does not count", 2, kpalumere_efs(image, length - 1, words, 3));
+    expect("the pointer is found", 0, kpalumere_pointer(image, length, words, 3));
+    expect("its field", 0x14, words[0]);
+    expect("its value", 0x200, words[1]);
+    expect("where it leads", 0x200, words[2]);
+    expect("no room is refused", 12, kpalumere_pointer(image, length, words, 2));
     expect("a directory is found", 0, kpalumere_directory(image, length, 1, words, 3));
     expect("its place", 0x200, words[0]);
     expect("its level", 1, words[1]);
@@ -79,6 +89,21 @@ static void check_flash(void)
     expect("the whole image is searched", 0, kpalumere_find_image(image, length, 1, 0, words, 4));
     expect("the place of the match's directory", 0x200, words[0]);
     expect("no room is refused", 12, kpalumere_find_image(image, length, 1, 0, words, 3));
+}
+
+static void check_version(void)
+{
+    static const uint8_t version[4] = {0x74, 0x01, 0x08, 0x00};
+    uint8_t binary[256] = {0};
+    uint64_t words[1] = {0};
+
+    expect("a binary without the mark is refused", 2, kpalumere_version(binary, sizeof binary, words, 1));
+    memcpy(binary + 0x10, "$PS1", 4);
+    memcpy(binary + 0x60, version, sizeof version);
+    expect("a version is given", 0, kpalumere_version(binary, sizeof binary, words, 1));
+    expect("the source's example", 0x00080174, words[0]);
+    expect("a header cut off is refused", 1, kpalumere_version(binary, 255, words, 1));
+    expect("no room is refused", 12, kpalumere_version(binary, sizeof binary, words, 0));
 }
 
 static void check_view(void)
@@ -185,6 +210,7 @@ int main(void)
 {
     check_checksum();
     check_flash();
+    check_version();
     check_view();
     check_build();
     check_aspt();

@@ -24,8 +24,10 @@ use Rattle.directory.specs.declared.Entry.{Entry}
 use Rattle.directory.proofs.Accept.{acceptance}
 use Rattle.directory.proofs.Lowest.{Searched, lowest, none, Decided, searched, lowest-found, lowest-lead}
 use Rattle.directory.proofs.PartAccept.{lead-fact, lead-given, part-acceptance}
-use Rattle.flash.specs.Efs.{counts, candidateAt, orElse, efsStep, efsOf, absent, inImage, pointerTo, pointerOf, rootOf}
+use Rattle.flash.specs.Efs.{counts, candidateAt, orElse, efsStep, efsOf, efsAt, efsIn, absent, inImage, pointerTo, pointerFrom, pointerOf, pointerIn}
 use Rattle.flash.specs.Flash.{Reading, levelOne, levelTwoAt, levelTwo, flashDirectory}
+use Rattle.flash.specs.declared.Efs.{Efs}
+use Rattle.flash.specs.declared.Pointer.{Pointer}
 use Rattle.flash.specs.Good.{offsetBy, EfsAt, Absent, PointsTo, physical, flash, DirectoryPointer, late, early, GoodOne, GoodTwo, GoodLevel, of-one, of-two, GoodLength, FlashAcceptance}
 use Rattle.flash.proofs.Ways.{Opened, one, two, opened, open-one, open-two}
 
@@ -133,19 +135,26 @@ module _ (window : ℕ) (s : List ℕ) where
       let b : p ≤ length s = omega arith in
       simp (lt-leb _ _ f, lt-ltb _ _ t, le-leb _ _ b) (ap (λ (x : ℕ). given (record { 0 = x })) q)
 
-  pointers-fact : (e : ℕ) (o : Offset) → pointerOf window s e ≡ given o → DirectoryPointer window s e (o .0)
-  unfolding pointerOf
-  pointers-fact e o h =
-      let l = leAt 4 s (e + 0x14) in
-      let m = leAt 4 s (e + 0x10) in
-      either (absent l) _ _ h
-      (λ b x. let g = past (not (absent m)) _ _ _ x in early (absent-fact l b) (present-fact m (not-true _ (g .0))) (pointer-fact m o (g .1)))
-      (λ b y. late (present-fact l b) (pointer-fact l o y))
+  -- a pointer that stands in a field
+  from-fact : (field v : ℕ) (p : Pointer) → pointerFrom window s field v ≡ given p → PointsTo window v (p .place .0)
+  from-fact field v p e =
+      let t = then-given (pointerTo window s v) (λ o. given (record { field = field; value = v; place = o })) e in
+      subst (λ (o : Offset). PointsTo window v (o .0)) (let h = t .2 in cc) (pointer-fact v (t .0) (t .1))
 
-  pointers-given : (e o : ℕ) → DirectoryPointer window s e o → o ≤ length s → pointerOf window s e ≡ given (record { 0 = o })
+  pointers-fact : (e : Offset) (p : Pointer) → pointerOf window s (efsAt s e) ≡ given p → DirectoryPointer window s (e .0) (p .place .0)
   unfolding pointerOf
-  pointers-given e o (late f p) h = simp (present-says _ f) (pointer-given _ o p h)
-  pointers-given e o (early a f p) h = simp (absent-says _ a, present-says _ f) (pointer-given _ o p h)
+  pointers-fact e p h =
+      let l = leAt 4 s (e .0 + 0x14) in
+      let m = leAt 4 s (e .0 + 0x10) in
+      either (absent l) _ _ h
+      (λ b x. let g = past (not (absent m)) _ _ _ x in early (absent-fact l b) (present-fact m (not-true _ (g .0))) (from-fact 0x10 m p (g .1)))
+      (λ b y. late (present-fact l b) (from-fact 0x14 l p y))
+
+  -- whatever is asked at the place where it leads
+  pointers-given : {A : Type 0} (next : ℕ → Reply A) (e : Offset) (o : ℕ) → DirectoryPointer window s (e .0) o → o ≤ length s → then (pointerOf window s (efsAt s e)) (λ p. next (p .place .0)) ≡ next o
+  unfolding pointerOf
+  pointers-given next e o (late f p) h = simp (present-says _ f, pointer-given _ o p h)
+  pointers-given next e o (early a f p) h = simp (absent-says _ a, present-says _ f, pointer-given _ o p h)
 
 -- a directory begins within the image
 begins : (r : Reading) (s : List ℕ) (d : Directory) → GoodDirectory (r .kind) (r .limit) s d → d .place .0 ≤ length s
@@ -157,17 +166,20 @@ module _ (r : Reading) (s : List ℕ) (d : Directory) where
 
   only-one : levelOne r s ≡ given d → GoodOne r s d
   only-one e =
-      let t = then-given (rootOf (r .window) (r .candidates) s) (λ o. directoryAt (r .kind) (r .limit) 1 s (o .0)) e in
-      let u = then-given (efsOf (r .window) (r .candidates) s) (λ e. pointerOf (r .window) s (e .0)) (t .1) in
-      let f = only-efs (r .window) s (r .candidates) (u .0) (u .1) in
-      let g = acceptance .only (r .kind) (r .limit) 1 s (t .0 .0) d (t .2) in
-      let p = pointers-fact (r .window) s (u .0 .0) (t .0) (u .2) in
-      record { candidate = f .0; efs = f .1; pointer = subst (λ (e : ℕ). DirectoryPointer (r .window) s e (d .place .0)) (sym (f .2)) (subst (DirectoryPointer (r .window) s (u .0 .0)) (sym (g .1)) p); directory = g .0; level = g .2 }
+      let t = then-given (pointerIn (r .window) (r .candidates) s) (λ p. directoryAt (r .kind) (r .limit) 1 s (p .place .0)) e in
+      let u = then-given (efsIn (r .window) (r .candidates) s) (pointerOf (r .window) s) (t .1) in
+      let v = then-given (efsOf (r .window) (r .candidates) s) (λ o. given (efsAt s o)) (u .1) in
+      let f = only-efs (r .window) s (r .candidates) (v .0) (v .1) in
+      let g = acceptance .only (r .kind) (r .limit) 1 s (t .0 .place .0) d (t .2) in
+      let is : efsAt s (v .0) ≡ u .0 = let h = v .2 in cc in
+      let p = pointers-fact (r .window) s (v .0) (t .0) (ap (pointerOf (r .window) s) is ∙ u .2) in
+      record { candidate = f .0; efs = f .1; pointer = subst (λ (e : ℕ). DirectoryPointer (r .window) s e (d .place .0)) (sym (f .2)) (subst (DirectoryPointer (r .window) s (v .0 .0)) (sym (g .1)) p); directory = g .0; level = g .2 }
 
   all-one : GoodOne r s d → levelOne r s ≡ given d
   all-one g =
-      ap (λ (x : Reply Offset). then (then x (λ e. pointerOf (r .window) s (e .0))) (λ o. directoryAt (r .kind) (r .limit) 1 s (o .0))) (all-efs (r .window) s (r .candidates) (g .candidate) (g .efs))
-      ∙ ap (λ (x : Reply Offset). then x (λ o. directoryAt (r .kind) (r .limit) 1 s (o .0))) (pointers-given (r .window) s _ (d .place .0) (g .pointer) (begins r s d (g .directory)))
+      let next = directoryAt (r .kind) (r .limit) 1 s in
+      ap (λ (x : Reply Offset). then (then (then x (λ o. given (efsAt s o))) (pointerOf (r .window) s)) (λ p. next (p .place .0))) (all-efs (r .window) s (r .candidates) (g .candidate) (g .efs))
+      ∙ pointers-given (r .window) s next _ (d .place .0) (g .pointer) (begins r s d (g .directory))
       ∙ at-level 1 (g .level) (g .directory)
 
 module _ (r : Reading) (s : List ℕ) (d above : Directory) where

@@ -16,7 +16,9 @@ use Rattle.directory.specs.declared.Directory.{Directory}
 use Rattle.directory.specs.declared.Entry.{Entry}
 use Rattle.directory.proofs.Accept.{acceptance, entry-acceptance}
 use Rattle.directory.proofs.Independent.{independence, leads-same}
-use Rattle.flash.specs.Efs.{efsOf, inImage, pointerTo, pointerOf, rootOf}
+use Rattle.flash.specs.Efs.{efsOf, efsAt, efsIn, inImage, pointerTo, pointerOf, pointerIn}
+use Rattle.flash.specs.declared.Efs.{Efs}
+use Rattle.flash.specs.declared.Pointer.{Pointer}
 use Rattle.flash.specs.Flash.{Reading, levelOne, levelTwo, levelTwoAt, flashDirectory, flashEntry, flashPart, fromLookup, flashFind}
 use Rattle.flash.specs.Good.{GoodLength}
 use Rattle.flash.specs.Independent.{SameWay, FlashIndependence}
@@ -37,25 +39,26 @@ module _ (r : Reading) (s t : List ℕ) (long : length s ≡ length t) where
   unfolding pointerTo
   pointer-same p = rw (then-same (offsetIn (r .window) p) (inImage s) (inImage t) (λ o q. rw long), long)
 
-  root-same : efsOf (r .window) (r .candidates) s ≡ efsOf (r .window) (r .candidates) t →
-      ((e : Offset) → efsOf (r .window) (r .candidates) s ≡ given e → pointerOf (r .window) s (e .0) ≡ pointerOf (r .window) t (e .0)) →
-      rootOf (r .window) (r .candidates) s ≡ rootOf (r .window) (r .candidates) t
-  root-same efs pointers =
-      then-same (efsOf (r .window) (r .candidates) s) (λ e. pointerOf (r .window) s (e .0)) (λ e. pointerOf (r .window) t (e .0)) pointers
-      ∙ ap (λ (x : Reply Offset). then x (λ e. pointerOf (r .window) t (e .0))) efs
+  pointers-same : (e : Efs) → pointerOf (r .window) s e ≡ pointerOf (r .window) t e
+  unfolding pointerOf
+  pointers-same e = simp pointer-same
 
 module _ (r : Reading) (level : ℕ) (s t : List ℕ) (wide : 16 ≤ r .kind .entry) (way : SameWay r level s t) where
-  same-root : rootOf (r .window) (r .candidates) s ≡ rootOf (r .window) (r .candidates) t
-  unfolding pointerOf
-  same-root =
-      root-same r s t (way .long) (way .efs)
-      (λ e q. rw (way .late e q, way .early e q) (simp (pointer-same r s t (way .long))))
+  same-efs : efsIn (r .window) (r .candidates) s ≡ efsIn (r .window) (r .candidates) t
+  same-efs =
+      then-same (efsOf (r .window) (r .candidates) s) (λ o. given (efsAt s o)) (λ o. given (efsAt t o)) (λ o q. rw (way .late o q, way .early o q))
+      ∙ ap (λ (x : Reply Offset). then x (λ o. given (efsAt t o))) (way .efs)
+
+  same-pointer : pointerIn (r .window) (r .candidates) s ≡ pointerIn (r .window) (r .candidates) t
+  same-pointer =
+      then-same (efsIn (r .window) (r .candidates) s) (pointerOf (r .window) s) (pointerOf (r .window) t) (λ e q. pointers-same r s t (way .long) e)
+      ∙ ap (λ (x : Reply Efs). then x (pointerOf (r .window) t)) same-efs
 
   same-one : GoodLength s → (d : Directory) → 1 ≤ level → levelOne r s ≡ given d → levelOne r t ≡ given d
   same-one z d h e =
-      let q = then-given (rootOf (r .window) (r .candidates) s) (λ o. directoryAt (r .kind) (r .limit) 1 s (o .0)) e in
-      ap (λ (x : Reply Offset). then x (λ o. directoryAt (r .kind) (r .limit) 1 t (o .0))) (sym same-root ∙ q .1)
-      ∙ given-same r 1 s t (q .0 .0) d wide (way .directories 1 h d (open-one r s d z e)) (q .2)
+      let q = then-given (pointerIn (r .window) (r .candidates) s) (λ p. directoryAt (r .kind) (r .limit) 1 s (p .place .0)) e in
+      ap (λ (x : Reply Pointer). then x (λ p. directoryAt (r .kind) (r .limit) 1 t (p .place .0))) (sym same-pointer ∙ q .1)
+      ∙ given-same r 1 s t (q .0 .place .0) d wide (way .directories 1 h d (open-one r s d z e)) (q .2)
 
   pub same-directory : (d : Directory) → flashDirectory r level s ≡ given d → flashDirectory r level t ≡ given d
   same-directory d e = let o = opened r s d level e in by level refl (o .0) (o .1)

@@ -1,3 +1,4 @@
 pub mod Ways
 pub mod Accept
 pub mod Independent
+pub mod Told

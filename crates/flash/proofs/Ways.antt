@@ -14,7 +14,7 @@ use Rattle.directory.specs.Entry.{leadIn}
 use Rattle.directory.specs.Part.{leadsTo}
 use Rattle.directory.specs.declared.Directory.{Directory}
 use Rattle.directory.proofs.Accept.{acceptance}
-use Rattle.flash.specs.Efs.{rootOf}
+use Rattle.flash.specs.Efs.{pointerIn}
 use Rattle.flash.specs.Good.{GoodLength}
 use Rattle.flash.specs.Flash.{Reading, sized, levelOne, levelTwoAt, levelTwo, levelOf, flashDirectory}
 
@@ -66,8 +66,8 @@ opened-small r s d level e = let o = opened r s d level e in (o .0, by (o .1))
   where
     by : {l : ℕ} → Opened r s d l → d .total ≤ r .limit
     by (one q) =
-        let t = then-given (rootOf (r .window) (r .candidates) s) (λ o. directoryAt (r .kind) (r .limit) 1 s (o .0)) q in
-        acceptance .only (r .kind) (r .limit) 1 s (t .0 .0) d (t .2) .0 .few
+        let t = then-given (pointerIn (r .window) (r .candidates) s) (λ p. directoryAt (r .kind) (r .limit) 1 s (p .place .0)) q in
+        acceptance .only (r .kind) (r .limit) 1 s (t .0 .place .0) d (t .2) .0 .few
     by (two above a q) =
         let k = then-given (leadIn (r .kind) s above) (levelTwoAt (r .kind) (r .limit) (r .window) s (above .place .0)) q in
         let t = then-given (leadsTo (r .window) s (above .place .0) (k .0)) (directoryAt (r .kind) (r .limit) 2 s) (k .2) in

@@ -1,4 +1,4 @@
--- The calls on a flash image: the directory of a level, its entries, their bytes, and the lookup in it. Assumes nothing: these are definitions.
+-- The calls on a flash image: the EFS, the directory pointer, the directory of a level, its entries, their bytes, and the lookup in it. Assumes nothing: these are definitions.
 use Prim.Native.Nat.{ℕ}
 use mathlib.Core.List.{List, [], _∷_}
 use mathlib.Core.Bool.{cond}
@@ -14,7 +14,9 @@ use Rattle.directory.specs.declared.Directory.{Directory}
 use Rattle.directory.specs.declared.Entry.{Entry}
 use Rattle.directory.specs.declared.Match.{Match}
 use Rattle.directory.specs.declared.Part.{Part}
-use Rattle.flash.specs.Efs.{rootOf}
+use Rattle.flash.specs.Efs.{efsIn, pointerIn}
+use Rattle.flash.specs.declared.Efs.{Efs}
+use Rattle.flash.specs.declared.Pointer.{Pointer}
 
 -- what a reading of flash images goes by: the kind of directory, the largest total of one, the window's bytes, and the physical addresses where an EFS may be
 pub record Reading : Type 0 where
@@ -34,9 +36,17 @@ base = readingOf pspKind 512 baseWindow (0xFFFA_0000 ∷ 0xFFF2_0000 ∷ 0xFFE2_
 abbrev pub sized : {A : Type 0} → List ℕ → Reply A → Reply A
 sized image rest = guard (leb 1 (length image)) 15 (guard (leb (length image) 16_777_216) 15 rest)
 
--- the directory of level one
+-- the EFS
+abbrev pub flashEfs : Reading → List ℕ → Reply Efs
+flashEfs r image = sized image (efsIn (r .window) (r .candidates) image)
+
+-- the directory pointer
+abbrev pub flashPointer : Reading → List ℕ → Reply Pointer
+flashPointer r image = sized image (pointerIn (r .window) (r .candidates) image)
+
+-- the directory of level one: where the directory pointer leads
 abbrev pub levelOne : Reading → List ℕ → Reply Directory
-levelOne r image = then (rootOf (r .window) (r .candidates) image) (λ o. directoryAt (r .kind) (r .limit) 1 image (o .0))
+levelOne r image = then (pointerIn (r .window) (r .candidates) image) (λ p. directoryAt (r .kind) (r .limit) 1 image (p .place .0))
 
 -- the directory of level two that entry e of a directory at o leads to
 abbrev pub levelTwoAt : Kind → ℕ → ℕ → List ℕ → ℕ → Entry → Reply Directory

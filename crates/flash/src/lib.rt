@@ -1,4 +1,4 @@
-// The calls on a flash image: from the EFS to the directories of both levels, their entries, their bytes, and the lookup in one of them.
+// The calls on a flash image: its EFS and its directory pointer, and from there the directories of both levels, their entries, their bytes, and the lookup in one of them.
 ghost use mathlib.Core.Path.{_≡_};
 ghost use Prim.Native.Nat.{_≤_};
 ghost use lib.ListN.{length};
@@ -7,8 +7,8 @@ ghost use Rattle.window.specs.Window.{toldOffset};
 ghost use Rattle.directory.specs.Directory.{toldDirectory};
 ghost use Rattle.directory.specs.Entry.{toldEntry, toldLookup};
 ghost use Rattle.directory.specs.Part.{toldPart, bytesOf, beginOf};
-ghost use Rattle.flash.specs.Efs.{counts, candidateAt, efsOf, absent, inImage, pointerTo, pointerOf, rootOf};
-ghost use Rattle.flash.specs.Flash.{readingOf, base, sized, levelOne, levelTwoAt, levelTwo, levelOf, flashDirectory, flashEntry, flashPart, fromLookup, flashFind};
+ghost use Rattle.flash.specs.Efs.{counts, candidateAt, efsOf, efsAt, efsIn, absent, inImage, pointerTo, pointerFrom, pointerOf, pointerIn, toldEfs, toldPointer};
+ghost use Rattle.flash.specs.Flash.{readingOf, base, sized, flashEfs, flashPointer, levelOne, levelTwoAt, levelTwo, levelOf, flashDirectory, flashEntry, flashPart, fromLookup, flashFind};
 use directory::Checked;
 use directory::Directory;
 use directory::Entry;
@@ -24,6 +24,32 @@ use window::Physical;
 
 // The largest total of a directory.
 pub const LIMIT: u32 = 512;
+
+// An EFS: its place, and its two directory pointers as they stand, the early one at 0x10 and the late one at 0x14.
+pub struct Efs {
+    pub place: Offset,
+    pub early: u32,
+    pub late: u32,
+}
+
+// What a search for the EFS answers.
+pub enum Located {
+    Given(Efs),
+    Refused(Refusal),
+}
+
+// The directory pointer: the offset of its field in the EFS, its value as it stands there, and the place where it leads.
+pub struct Pointer {
+    pub field: u32,
+    pub value: u32,
+    pub place: Offset,
+}
+
+// What a search for the directory pointer answers.
+pub enum Pointed {
+    Given(Pointer),
+    Refused(Refusal),
+}
 
 // The physical addresses where an EFS may be, in the order to try.
 const CANDIDATES: [u64; 6] = [
@@ -61,8 +87,8 @@ fn candidate(image: &[u8], window: u32, address: u64) -> Converted
     }
 }
 
-// The first candidate that counts.
-fn efs(image: &[u8], window: u32, candidates: &[u64]) -> Converted
+// Where the EFS is: the first candidate that counts.
+fn first_efs(image: &[u8], window: u32, candidates: &[u64]) -> Converted
     ensures { λ r. ⌜ toldOffset r ≡ efsOf window (now (candidates .entry)) (now (image .entry)) ⌝ }
 {
     let mut i: usize = 0;
@@ -74,6 +100,30 @@ fn efs(image: &[u8], window: u32, candidates: &[u64]) -> Converted
         i += 1;
     }
     Converted::Refused(Refusal::SIGNATURE)
+}
+
+// The EFS at an offset.
+fn efs_at(image: &[u8], at: Offset) -> Efs
+    ensures { λ r. ⌜ r ≡ efsAt (now (image .entry)) at ⌝ }
+{
+    let o = at.0 as usize;
+    let early = le::u32_at(image, o + 0x10);
+    let late = le::u32_at(image, o + 0x14);
+    Efs {
+        place: at,
+        early,
+        late,
+    }
+}
+
+// The EFS of an image, by the candidates to try.
+fn efs_by(image: &[u8], window: u32, candidates: &[u64]) -> Located
+    ensures { λ r. ⌜ toldEfs r ≡ efsIn window (now (candidates .entry)) (now (image .entry)) ⌝ }
+{
+    match first_efs(image, window, candidates) {
+        Converted::Given(o) => Located::Given(efs_at(image, o)),
+        Converted::Refused(why) => Located::Refused(why),
+    }
 }
 
 // Is there no such pointer?
@@ -94,7 +144,7 @@ fn in_image(image: &[u8], o: Offset) -> Converted
 }
 
 // Where a pointer leads.
-fn pointer(image: &[u8], window: u32, p: u32) -> Converted
+fn pointer_to(image: &[u8], window: u32, p: u32) -> Converted
     ensures { λ r. ⌜ toldOffset r ≡ pointerTo window (now (image .entry)) p ⌝ }
 {
     let first = 0x1_0000_0000 - (window as u64);
@@ -110,29 +160,40 @@ fn pointer(image: &[u8], window: u32, p: u32) -> Converted
     Converted::Refused(Refusal::OUTSIDE)
 }
 
-// Where the directory pointer of the EFS at an offset leads.
-fn pointer_of(image: &[u8], window: u32, efs: Offset) -> Converted
-    ensures { λ r. ⌜ toldOffset r ≡ pointerOf window (now (image .entry)) (efs .0) ⌝ }
+// A pointer that stands in a field of the EFS, and where it leads.
+fn pointer_from(image: &[u8], window: u32, field: u32, value: u32) -> Pointed
+    ensures { λ r. ⌜ toldPointer r ≡ pointerFrom window (now (image .entry)) field value ⌝ }
 {
-    let e = efs.0 as usize;
-    let late = le::u32_at(image, e + 0x14);
-    if no_pointer(late) {
-        let early = le::u32_at(image, e + 0x10);
-        if no_pointer(early) {
-            return Converted::Refused(Refusal::ABSENT);
-        }
-        return pointer(image, window, early);
+    match pointer_to(image, window, value) {
+        Converted::Given(place) => Pointed::Given(Pointer {
+            field,
+            value,
+            place,
+        }),
+        Converted::Refused(why) => Pointed::Refused(why),
     }
-    pointer(image, window, late)
 }
 
-// Where level one begins.
-fn root(image: &[u8], window: u32, candidates: &[u64]) -> Converted
-    ensures { λ r. ⌜ toldOffset r ≡ rootOf window (now (candidates .entry)) (now (image .entry)) ⌝ }
+// The directory pointer of an EFS.
+fn pointer_of(image: &[u8], window: u32, efs: Efs) -> Pointed
+    ensures { λ r. ⌜ toldPointer r ≡ pointerOf window (now (image .entry)) efs ⌝ }
 {
-    match efs(image, window, candidates) {
-        Converted::Given(e) => pointer_of(image, window, e),
-        Converted::Refused(why) => Converted::Refused(why),
+    if no_pointer(efs.late) {
+        if no_pointer(efs.early) {
+            return Pointed::Refused(Refusal::ABSENT);
+        }
+        return pointer_from(image, window, 0x10, efs.early);
+    }
+    pointer_from(image, window, 0x14, efs.late)
+}
+
+// The directory pointer of an image, by the candidates to try.
+fn pointer_by(image: &[u8], window: u32, candidates: &[u64]) -> Pointed
+    ensures { λ r. ⌜ toldPointer r ≡ pointerIn window (now (candidates .entry)) (now (image .entry)) ⌝ }
+{
+    match efs_by(image, window, candidates) {
+        Located::Given(e) => pointer_of(image, window, e),
+        Located::Refused(why) => Pointed::Refused(why),
     }
 }
 
@@ -140,9 +201,9 @@ fn root(image: &[u8], window: u32, candidates: &[u64]) -> Converted
 fn level_one(image: &[u8], kind: Kind, limit: u32, window: u32, candidates: &[u64]) -> Checked
     ensures { λ r. ⌜ toldDirectory r ≡ levelOne (readingOf kind limit window (now (candidates .entry))) (now (image .entry)) ⌝ }
 {
-    match root(image, window, candidates) {
-        Converted::Given(o) => directory::directory_at(image, kind, limit, 1, o),
-        Converted::Refused(why) => Checked::Refused(why),
+    match pointer_by(image, window, candidates) {
+        Pointed::Given(p) => directory::directory_at(image, kind, limit, 1, p.place),
+        Pointed::Refused(why) => Checked::Refused(why),
     }
 }
 
@@ -233,6 +294,34 @@ fn opened(
         return Checked::Refused(Refusal::IMAGE);
     }
     level_of(image, kind, limit, window, candidates, level)
+}
+
+// The EFS: its place and its two directory pointers.
+pub fn efs_in(image: &[u8]) -> Located
+    ensures { λ r. ⌜ toldEfs r ≡ flashEfs base (now (image .entry)) ⌝ }
+{
+    if image.len() < 1 {
+        return Located::Refused(Refusal::IMAGE);
+    }
+    if 16777216 < image.len() {
+        return Located::Refused(Refusal::IMAGE);
+    }
+    let candidates = CANDIDATES;
+    efs_by(image, Physical::WINDOW, &candidates)
+}
+
+// The directory pointer: the field that holds it, its value, and the place where it leads.
+pub fn pointer_in(image: &[u8]) -> Pointed
+    ensures { λ r. ⌜ toldPointer r ≡ flashPointer base (now (image .entry)) ⌝ }
+{
+    if image.len() < 1 {
+        return Pointed::Refused(Refusal::IMAGE);
+    }
+    if 16777216 < image.len() {
+        return Pointed::Refused(Refusal::IMAGE);
+    }
+    let candidates = CANDIDATES;
+    pointer_by(image, Physical::WINDOW, &candidates)
 }
 
 // The directory of a level: its place, its level and its total.

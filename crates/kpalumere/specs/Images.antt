@@ -5,7 +5,17 @@ use Rattle.directory.specs.declared.Directory.{Directory}
 use Rattle.directory.specs.declared.Entry.{Entry}
 use Rattle.directory.specs.declared.Match.{Match}
 use Rattle.directory.specs.declared.Part.{Part}
+use Rattle.flash.specs.declared.Efs.{Efs}
+use Rattle.flash.specs.declared.Pointer.{Pointer}
 use Rattle.walk.specs.declared.Found.{Found}
+
+-- an EFS: its place, its early pointer and its late pointer
+abbrev pub layEfs : Efs → List ℕ
+layEfs e = e .place .0 ∷ e .early ∷ e .late ∷ []
+
+-- a directory pointer: its field, its value, and where it leads
+abbrev pub layPointer : Pointer → List ℕ
+layPointer p = p .field ∷ p .value ∷ p .place .0 ∷ []
 
 -- a directory: its place, level and total
 abbrev pub layDirectory : Directory → List ℕ

@@ -1,14 +1,48 @@
-// Flash images: the directory of a level, its entries, where their bytes lie, and the lookups.
+// Flash images: the EFS, the directory pointer, the directory of a level, its entries, where their bytes lie, and the lookups.
 ghost use mathlib.Core.Path.{_≡_};
 ghost use Rattle.lent.specs.Lent.{numberLeft, wordsLeft};
-ghost use Rattle.flash.specs.Flash.{base, flashDirectory, flashEntry, flashPart, flashFind};
+ghost use Rattle.flash.specs.Flash.{base, flashEfs, flashPointer, flashDirectory, flashEntry, flashPart, flashFind};
 ghost use Rattle.walk.specs.Walk.{findImage};
-ghost use Rattle.kpalumere.specs.Images.{layDirectory, layEntry, layPart, layMatch, layFound};
+ghost use Rattle.kpalumere.specs.Images.{layEfs, layPointer, layDirectory, layEntry, layPart, layMatch, layFound};
 use directory::Checked;
 use directory::Lookup;
 use directory::Placed;
 use directory::Read;
+use flash::Located;
+use flash::Pointed;
 use walk::Walked;
+
+// Three words: the EFS's place, and its pointers at 0x10 and at 0x14 as they stand.
+#[no_mangle]
+pub extern "C" fn kpalumere_efs(image: &[u8], words: &mut [u64]) -> u64
+    ensures { λ r. ⌜ r ≡ numberLeft layEfs (flashEfs base (now (image .entry))) (now (words .entry)) ⌝ }
+    ensures { λ _. ⌜ now (words .exit) ≡ wordsLeft layEfs (flashEfs base (now (image .entry))) (now (words .entry)) ⌝ }
+{
+    match flash::efs_in(image) {
+        Located::Given(e) => {
+            let place = e.place;
+            let values = [place.0 as u64, e.early as u64, e.late as u64];
+            lent::put(words, 0, &values)
+        }
+        Located::Refused(why) => why.number as u64,
+    }
+}
+
+// Three words: the field of the EFS that holds the directory pointer, its value, and the place where it leads.
+#[no_mangle]
+pub extern "C" fn kpalumere_pointer(image: &[u8], words: &mut [u64]) -> u64
+    ensures { λ r. ⌜ r ≡ numberLeft layPointer (flashPointer base (now (image .entry))) (now (words .entry)) ⌝ }
+    ensures { λ _. ⌜ now (words .exit) ≡ wordsLeft layPointer (flashPointer base (now (image .entry))) (now (words .entry)) ⌝ }
+{
+    match flash::pointer_in(image) {
+        Pointed::Given(p) => {
+            let place = p.place;
+            let values = [p.field as u64, p.value as u64, place.0 as u64];
+            lent::put(words, 0, &values)
+        }
+        Pointed::Refused(why) => why.number as u64,
+    }
+}
 
 // Three words: the directory's place, level and total.
 #[no_mangle]

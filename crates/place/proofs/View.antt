@@ -18,7 +18,7 @@ use Rattle.directory.specs.declared.Entry.{Entry}
 use Rattle.directory.specs.declared.Part.{Part}
 use Rattle.directory.proofs.Accept.{only-good, cookie-acceptance}
 use Rattle.directory.proofs.Parts.{part-inside}
-use Rattle.flash.specs.Efs.{rootOf}
+use Rattle.flash.specs.Efs.{pointerIn}
 use Rattle.flash.specs.Good.{GoodLength}
 use Rattle.flash.specs.Flash.{Reading, base, flashDirectory, flashPart}
 use Rattle.flash.proofs.Ways.{sized-passed, sized-past, Opened, one, two, opened}
@@ -54,7 +54,7 @@ module _ (r : Reading) (s : List ℕ) where
           record { long = z; good = g .0; here = refl; level = subst (λ (n : ℕ). (n ≡ 1) ⊎ (n ≡ 2)) (sym (g .2)) w }
 
       by : {level : ℕ} → GoodLength s → Opened r s d level → GoodPlace r s (d .place .0) d
-      by z (one e) = let t = then-given (rootOf (r .window) (r .candidates) s) _ e in at 1 (t .0 .0) z (t .2) (inl refl)
+      by z (one e) = let t = then-given (pointerIn (r .window) (r .candidates) s) _ e in at 1 (t .0 .place .0) z (t .2) (inl refl)
       by z (two above e h) =
           let t = then-given (leadIn (r .kind) s above) _ h in
           let u = then-given (leadsTo (r .window) s (above .place .0) (t .0)) _ (t .2) in

@@ -1,8 +1,17 @@
-//! The flash image: its directories of both levels, their entries, where their bytes lie, and the two lookups.
+//! The flash image: its EFS and directory pointer, its directories of both levels, their entries, where their bytes lie, and the two lookups.
 
 use crate::answer::{answer_of, lookup_of, Answer};
 
 extern "C" {
+    fn kpalumere_efs(image: *const u8, image_len: usize, words: *mut u64, words_len: usize) -> u64;
+
+    fn kpalumere_pointer(
+        image: *const u8,
+        image_len: usize,
+        words: *mut u64,
+        words_len: usize,
+    ) -> u64;
+
     fn kpalumere_directory(
         image: *const u8,
         image_len: usize,
@@ -47,6 +56,27 @@ extern "C" {
         words: *mut u64,
         words_len: usize,
     ) -> u64;
+}
+
+/// The EFS: where in the image it begins, and its two directory pointers as they stand.
+#[derive(Clone, Copy, Debug, PartialEq, Eq)]
+pub struct Efs {
+    pub place: u64,
+    /// The pointer at 0x10.
+    pub early: u64,
+    /// The pointer at 0x14.
+    pub late: u64,
+}
+
+/// The directory pointer that is used.
+#[derive(Clone, Copy, Debug, PartialEq, Eq)]
+pub struct Pointer {
+    /// The offset of its field in the EFS: 0x14, or 0x10 where the pointer there is absent.
+    pub field: u64,
+    /// Its value as it stands: a physical address or a flash offset.
+    pub value: u64,
+    /// Where in the image it leads, which is where level one begins.
+    pub place: u64,
 }
 
 /// A checked directory: where in the image it begins, its level, and how many entries it has.
@@ -118,6 +148,26 @@ pub struct ImageMatch {
     pub tested: u64,
 }
 
+/// The EFS of an image.
+pub fn efs(image: &[u8]) -> Answer<Efs> {
+    answer_of(
+        |words: &mut [u64; 3]| efs_into(image, words),
+        |&[place, early, late]| Efs { place, early, late },
+    )
+}
+
+/// The directory pointer of an image, and where it leads.
+pub fn pointer(image: &[u8]) -> Answer<Pointer> {
+    answer_of(
+        |words: &mut [u64; 3]| pointer_into(image, words),
+        |&[field, value, place]| Pointer {
+            field,
+            value,
+            place,
+        },
+    )
+}
+
 /// The directory of a level.
 pub fn directory(image: &[u8], level: u32) -> Answer<Directory> {
     answer_of(
@@ -168,6 +218,16 @@ pub fn find_image(image: &[u8], class: u8, subprogram: u8) -> Answer<ImageMatch>
 }
 
 // The exported calls, with the words as a caller lends them.
+
+fn efs_into(image: &[u8], words: &mut [u64]) -> u64 {
+    // SAFETY: lent slices, as the crate's page says.
+    unsafe { kpalumere_efs(image.as_ptr(), image.len(), words.as_mut_ptr(), words.len()) }
+}
+
+fn pointer_into(image: &[u8], words: &mut [u64]) -> u64 {
+    // SAFETY: lent slices, as the crate's page says.
+    unsafe { kpalumere_pointer(image.as_ptr(), image.len(), words.as_mut_ptr(), words.len()) }
+}
 
 fn directory_into(image: &[u8], level: u32, words: &mut [u64]) -> u64 {
     // SAFETY: lent slices, as the crate's page says.
@@ -243,7 +303,65 @@ fn find_image_into(image: &[u8], class: u8, subprogram: u8, words: &mut [u64]) -
 mod tests {
     use super::*;
     use crate::answer::Refusal;
-    use crate::sample::{board, LEVEL_ONE, LEVEL_TWO};
+    use crate::sample::{board, EFS, LEVEL_ONE, LEVEL_TWO};
+
+    /// The sample board with other pointers in its EFS.
+    fn board_with(early: u32, late: u32) -> Vec<u8> {
+        let mut image = board();
+        image[EFS + 0x10..EFS + 0x14].copy_from_slice(&early.to_le_bytes());
+        image[EFS + 0x14..EFS + 0x18].copy_from_slice(&late.to_le_bytes());
+        image
+    }
+
+    #[test]
+    fn the_efs_has_its_place_and_both_pointers() {
+        let expected = Efs {
+            place: EFS as u64,
+            early: 0x0123_4567,
+            late: 0x89AB_CDEF,
+        };
+        let image = board_with(0x0123_4567, 0x89AB_CDEF);
+        assert_eq!(efs(&image), Ok(expected));
+        // Cut off by one byte it does not count.
+        assert_eq!(efs(&image[..image.len() - 1]), Err(Refusal::alone(2)));
+        assert_eq!(efs(&[]), Err(Refusal::alone(15)));
+        assert_eq!(efs(&vec![0; 16_777_217]), Err(Refusal::alone(15)));
+    }
+
+    #[test]
+    fn the_late_pointer_is_used_unless_it_is_absent() {
+        let leads = |field, value, place| {
+            Ok(Pointer {
+                field,
+                value,
+                place,
+            })
+        };
+        let physical = 0xFF00_1000;
+        assert_eq!(pointer(&board()), leads(0x14, LEVEL_ONE, LEVEL_ONE));
+        let both = board_with(0x2000, physical);
+        assert_eq!(pointer(&both), leads(0x14, 0xFF00_1000, 0x1000));
+        for absent in [0, 0xFFFF_FFFF] {
+            let early = board_with(physical, absent);
+            assert_eq!(pointer(&early), leads(0x10, 0xFF00_1000, 0x1000));
+        }
+    }
+
+    #[test]
+    fn a_pointer_is_refused_with_the_number_of_its_check() {
+        let refused = |early, late| pointer(&board_with(early, late)).unwrap_err().number;
+        assert_eq!(pointer(&[]), Err(Refusal::alone(15)));
+        assert_eq!(pointer(&[0]), Err(Refusal::alone(2)));
+        assert_eq!(refused(0, 0xFFFF_FFFF), 8);
+        // Neither a flash offset nor physical, on both sides.
+        assert_eq!(refused(0x1000, 0x0100_0000), 7);
+        assert_eq!(refused(0x1000, 0xFEFF_FFFF), 7);
+        // The image's length is the last place where a pointer may lead.
+        let length = board().len() as u32;
+        let last = pointer(&board_with(0, length)).map(|to| to.place);
+        assert_eq!(last, Ok(u64::from(length)));
+        assert_eq!(refused(0x1000, length + 1), 7);
+    }
 
     #[test]
     fn both_levels_are_found() {
@@ -318,6 +436,8 @@ mod tests {
     fn without_room_for_the_words_the_answer_is_12_and_none_is_written() {
         let image = board();
         let mut words = [7; 5];
+        assert_eq!(efs_into(&image, &mut words[..2]), 12);
+        assert_eq!(pointer_into(&image, &mut words[..2]), 12);
         assert_eq!(directory_into(&image, 1, &mut words[..2]), 12);
         assert_eq!(entry_into(&image, 1, 0, &mut words[..4]), 12);
         assert_eq!(part_into(&image, 1, 0, &mut words[..1]), 12);

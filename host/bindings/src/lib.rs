@@ -16,6 +16,7 @@ mod guids;
 mod mailbox;
 #[cfg(test)]
 mod sample;
+mod version;
 mod view;
 
 pub use answer::{Answer, Refusal};
@@ -23,10 +24,12 @@ pub use aspt::{aspt_read, aspt_write, AsptStructure, AsptTable};
 pub use build::{extend, start, NewEntry};
 pub use checksum::checksum;
 pub use flash::{
-    directory, entry, find, find_image, part, Directory, Entry, ImageMatch, Match, Part,
+    directory, efs, entry, find, find_image, part, pointer, Directory, Efs, Entry, ImageMatch,
+    Match, Part, Pointer,
 };
 pub use guids::{
     guid_entry, guid_extend, guid_find, guid_start, guids, Guid, GuidEntry, GuidMatch, GuidTable,
 };
 pub use mailbox::{Firmware, Interrupt, Mailbox, Place, Post, Register};
+pub use version::version;
 pub use view::{view, view_entry, view_part};

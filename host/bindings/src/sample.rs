@@ -3,7 +3,7 @@
 use crate::checksum::checksum;
 
 /// Where the EFS lies: the last place where one is looked for.
-const EFS: usize = 0x2_0000;
+pub const EFS: usize = 0x2_0000;
 
 /// Where the directories begin.
 pub const LEVEL_ONE: u64 = 0x1000;

@@ -84,6 +84,24 @@ impl Level {
     }
 }
 
+/// An EFS: its offset, and its two directory pointers as they stand.
+#[derive(Clone, Copy, Debug, PartialEq, Eq)]
+pub struct Efs {
+    pub place: u64,
+    /// The pointer at 0x10.
+    pub early: u32,
+    /// The pointer at 0x14.
+    pub late: u32,
+}
+
+/// The directory pointer: the offset of its field in the EFS, its value there, and the flash offset to which it leads.
+#[derive(Clone, Copy, Debug, PartialEq, Eq)]
+pub struct Pointer {
+    pub field: u64,
+    pub value: u32,
+    pub place: u64,
+}
+
 /// One entry of a directory.
 #[derive(Clone, Copy, Debug, PartialEq, Eq)]
 pub struct Entry {
@@ -301,43 +319,64 @@ fn check_image_length(image: &[u8]) -> Result<(), Refusal> {
     require(!image.is_empty() && image.len() <= LONGEST_IMAGE, 15)
 }
 
-/// Where the EFS lies: the first candidate that counts.
-fn find_efs(image: &[u8]) -> Result<usize, Refusal> {
+/// The first EFS candidate that counts.
+fn find_efs(image: &[u8]) -> Result<Efs, Refusal> {
     for candidate in EFS_CANDIDATES {
-        let FlashOffset(o) = candidate.flash_offset()?;
-        if lies_in(image, o, EFS_LENGTH) && image[o as usize..].starts_with(&EFS_SIGNATURE) {
-            return Ok(o as usize);
+        let FlashOffset(place) = candidate.flash_offset()?;
+        let o = place as usize;
+        if lies_in(image, place, EFS_LENGTH) && image[o..].starts_with(&EFS_SIGNATURE) {
+            return Ok(Efs {
+                place,
+                early: u32_at(image, o + 0x10),
+                late: u32_at(image, o + 0x14),
+            });
         }
     }
     Err(Refusal::of(2))
 }
 
-/// Where the EFS says that the level-one directory lies.
-fn directory_pointer(image: &[u8]) -> Result<u64, Refusal> {
+/// The pointer to the level-one directory.
+fn directory_pointer(image: &[u8]) -> Result<Pointer, Refusal> {
     let efs = find_efs(image)?;
     // the pointer at 0x14, or the one at 0x10 where that is absent
-    let present = |pointer: &u32| *pointer != 0 && *pointer != 0xFFFF_FFFF;
-    let pointers = [u32_at(image, efs + 0x14), u32_at(image, efs + 0x10)];
-    let pointer = match pointers.into_iter().find(present) {
-        Some(pointer) => pointer,
+    let present = |(_, pointer): &(u64, u32)| *pointer != 0 && *pointer != 0xFFFF_FFFF;
+    let pointers = [(0x14, efs.late), (0x10, efs.early)];
+    let (field, value) = match pointers.into_iter().find(present) {
+        Some(found) => found,
         None => return Err(Refusal::of(8)),
     };
     // physical, a flash offset, or neither
-    let FlashOffset(o) = if u64::from(pointer) >= WINDOW_FIRST {
-        PhysicalAddress(u64::from(pointer)).flash_offset()?
-    } else if pointer < POINTER_OFFSETS_END {
-        FlashOffset(u64::from(pointer))
+    let FlashOffset(place) = if u64::from(value) >= WINDOW_FIRST {
+        PhysicalAddress(u64::from(value)).flash_offset()?
+    } else if value < POINTER_OFFSETS_END {
+        FlashOffset(u64::from(value))
     } else {
         return Err(Refusal::of(7));
     };
     // beyond the image's length
-    require(o <= image.len() as u64, 7)?;
-    Ok(o)
+    require(place <= image.len() as u64, 7)?;
+    Ok(Pointer {
+        field,
+        value,
+        place,
+    })
+}
+
+/// The EFS of an image.
+pub fn efs(image: &[u8]) -> Result<Efs, Refusal> {
+    check_image_length(image)?;
+    find_efs(image)
+}
+
+/// The directory pointer of an image.
+pub fn pointer(image: &[u8]) -> Result<Pointer, Refusal> {
+    check_image_length(image)?;
+    directory_pointer(image)
 }
 
 /// The level-one directory of an image of good length.
 fn level_one(image: &[u8]) -> Result<Directory<'_>, Refusal> {
-    let o = directory_pointer(image)?;
+    let o = directory_pointer(image)?.place;
     checked_directory(image, o, Level::One)
 }
 

@@ -14,3 +14,4 @@ pub mod lines;
 pub mod little_endian;
 pub mod mailbox;
 pub mod refusal;
+pub mod version;

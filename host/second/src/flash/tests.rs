@@ -904,3 +904,35 @@ fn extending_writes_over_what_stands_behind_and_knows_no_15() {
     assert_eq!(buffer[16..32], [0; 16]);
     assert_eq!(buffer[32..64], [0xEE; 32]);
 }
+
+#[test]
+fn the_efs_is_told_with_both_pointers_as_they_stand() {
+    let mut image = vec![0; L];
+    assert_eq!(efs(&image), Err(Refusal::of(2)));
+    put_efs(&mut image, EFS, 0xFFFF_FFFF, 0x1234_5678);
+    let expected = Efs {
+        place: EFS as u64,
+        early: 0x1234_5678,
+        late: 0xFFFF_FFFF,
+    };
+    assert_eq!(efs(&image), Ok(expected));
+    assert_eq!(efs(&[]), Err(Refusal::of(15)));
+}
+
+#[test]
+fn the_pointer_is_told_with_its_field_and_where_it_leads() {
+    let mut image = vec![0; L];
+    assert_eq!(pointer(&[]), Err(Refusal::of(15)));
+    assert_eq!(pointer(&image), Err(Refusal::of(2)));
+    put_efs(&mut image, EFS, 0, 0xFFFF_FFFF);
+    assert_eq!(pointer(&image), Err(Refusal::of(8)));
+    put_efs(&mut image, EFS, 0, 0xFF00_0000 + L as u32);
+    let early = Pointer {
+        field: 0x10,
+        value: 0xFF00_0000 + L as u32,
+        place: L as u64,
+    };
+    assert_eq!(pointer(&image), Ok(early));
+    put_efs(&mut image, EFS, L as u32 + 1, 0);
+    assert_eq!(pointer(&image), Err(Refusal::of(7)));
+}

@@ -10,8 +10,8 @@ use Rattle.reply.proofs.ScanLaws.{scan-start, scan-end, scan-stop, scan-pass}
 use Rattle.window.specs.Window.{toldOffset}
 use Rattle.window.specs.declared.Offset.{Offset}
 use Rattle.flash.specs.Efs.{efsOf, efsStep, orElse}
-use Rattle.flash.proofs.efs.Statement.{statement}
-use Rattle.flash.proofs.efs.Tie as tie
+use Rattle.flash.proofs.first_efs.Statement.{statement}
+use Rattle.flash.proofs.first_efs.Tie as tie
 
 abbrev Inv-loop : tie.InvT-loop
 Inv-loop image window candidates i₀ i = (i ≤ length candidates) × (scan (efsStep window candidates image) (λ _. refused 2 alone) (length candidates - i) i ≡ efsOf window candidates image)
@@ -64,8 +64,8 @@ returns-2 c =
     let a = l .before .before .before .args in
     sym (scan-end (efsStep (a .window) (now (a .candidates)) (now (a .image))) (λ _. refused 2 alone) (length (now (a .candidates))) (l .loop .i) (omega arith)) ∙ l .loop .inv .1
 
-pub efs-spec : {M : Type 1} → statement M
-efs-spec =
+pub first-efs-spec : {M : Type 1} → statement M
+first-efs-spec =
     tie.close
     (tie.spec
     Inv-loop

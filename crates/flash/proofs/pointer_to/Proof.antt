@@ -7,8 +7,8 @@ use Rattle.reply.proofs.ReplyLaws.{then-told}
 use Rattle.window.specs.Window.{toldOffset}
 use Rattle.flash.specs.Efs.{inImage, pointerTo}
 use borrow.Author.Needs.{needs}
-use Rattle.flash.proofs.pointer.Statement.{statement}
-use Rattle.flash.proofs.pointer.Tie as tie
+use Rattle.flash.proofs.pointer_to.Statement.{statement}
+use Rattle.flash.proofs.pointer_to.Tie as tie
 
 sub-first : tie.Need-sub-first
 sub-first c = search needs
@@ -52,8 +52,8 @@ returns-4 c =
     let a = c .before .before .before .args in
     simp (lt-leb (0x1_0000_0000 - a .window) (a .p) (omega arith), le-ltb (a .p) (a .window) (omega arith))
 
-pub pointer-spec : {M : Type 1} → statement M
-pointer-spec =
+pub pointer-to-spec : {M : Type 1} → statement M
+pointer-to-spec =
     tie.close
     (tie.spec
     sub-first

@@ -1,0 +1,3 @@
+pub mod Told
+pub mod Header
+pub mod Example
