@@ -5,9 +5,9 @@ use std::io;
 /// How a run ends.
 #[derive(Clone, Copy, Debug, PartialEq, Eq)]
 pub enum Ending {
-    /// All was done. A refusal of the library is an answer, so `ask` ends so as well.
+    /// All was accepted and found. To `ask` a refusal of the library is an answer, so it ends so as well.
     Done,
-    /// Some call of a recording was refused.
+    /// Something was refused, or was not found.
     Refused,
     /// Some line was no call.
     BadLine,
@@ -28,6 +28,14 @@ impl Ending {
         }
     }
 
+    /// How a run of two parts ends: as the one with the higher status.
+    pub fn and(self, other: Ending) -> Ending {
+        match other.status() > self.status() {
+            true => other,
+            false => self,
+        }
+    }
+
     /// How a run ends whose output could not be written. A reader that has seen enough and closes the pipe is no fault.
     pub fn of_unwritten(error: &io::Error) -> Ending {
         if error.kind() == io::ErrorKind::BrokenPipe {
@@ -44,6 +52,17 @@ impl Ending {
 #[cfg(test)]
 mod tests {
     use super::*;
+
+    #[test]
+    fn of_two_parts_the_worse_one_tells() {
+        let (done, refused) = (Ending::Done, Ending::Refused);
+        assert_eq!(done.and(done), done);
+        assert_eq!(done.and(refused), refused);
+        assert_eq!(refused.and(done), refused);
+        let unread = Ending::NotReadOrWritten;
+        assert_eq!(refused.and(unread), unread);
+        assert_eq!(unread.and(refused), unread);
+    }
 
     #[test]
     fn a_closed_pipe_is_no_fault_and_any_other_is_one() {

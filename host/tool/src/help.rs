@@ -1,5 +1,6 @@
 //! The help and the version, for people.
 
+use crate::command_line::COMMANDS;
 use crate::ending::Ending;
 use std::io::Write;
 
@@ -7,33 +8,54 @@ use std::io::Write;
 pub const VERSION: &str = concat!("kpalumere ", env!("CARGO_PKG_VERSION"), "\n");
 
 /// What `--help` prints.
-pub const TEXT: &str = "\
+pub fn text() -> String {
+    format!("{BEFORE}{}{AFTER}", usages())
+}
+
+const BEFORE: &str = "\
 Kpalumere: a register of the firmware in AMD secure processors, whose every answer is proved.
 
 The tool reads files and prints. What it says about an image, a table or a mailbox comes from a library that
 is proved to follow document 01, the paper with the rules.
 
 Usage:
-  kpalumere ask [FILE]     answer the calls in FILE, or on standard input: a line a call, a line its answer
-  kpalumere ask --help     the calls, and how a line is written
-  kpalumere mailbox [FILE] play a recording of the mailbox: what each caller asked, and what it was answered
-  kpalumere mailbox --help what a recording is, and what is shown of it
-  kpalumere --help         this text (also -h and help)
-  kpalumere --version      the version
+";
+
+const AFTER: &str = "
+`kpalumere COMMAND --help` and `kpalumere help COMMAND` say all about one command.
 
 Try it:
+  kpalumere explain 4
   printf 'buffer image 16\\npatch image 4 c0ffee\\nshow image 0 8\\n' | kpalumere ask
 
-Status: 0 where all was answered (to ask, a refusal is an answer), 1 where a line was no call or a call of a recording
-was refused, 2 where the command line is wrong, 3 where a file cannot be read or the output cannot be written.
+Status: 0 where all was accepted and found, 1 where something was refused or not found or a line was no call, 2 where
+the command line is wrong, 3 where a file cannot be read or the output cannot be written. (To ask, a refusal is an answer: 0.)
 ";
 
 /// What is said where no command is named.
-pub const SHORT: &str = "\
-kpalumere: no command is given.
-  kpalumere ask [FILE]     answer the calls in FILE, or on standard input
-  kpalumere mailbox [FILE] play a recording of the mailbox
-  kpalumere --help         all that the tool does";
+pub fn short() -> String {
+    let text = format!("kpalumere: no command is given.\n{}", usages());
+    text.trim_end().to_string()
+}
+
+/// Each way to start the tool, a line or two each.
+fn usages() -> String {
+    const COLUMNS: usize = 34;
+    let mut text = String::new();
+    let mut add = |words: String, does: &str| {
+        let form = format!("  kpalumere {words} ");
+        text.push_str(&match form.len() <= COLUMNS {
+            true => format!("{form:<COLUMNS$}{does}\n"),
+            false => format!("{form}\n{:COLUMNS$}{does}\n", ""),
+        });
+    };
+    for command in COMMANDS {
+        add(format!("{} {}", command.name, command.words), command.does);
+    }
+    add(String::from("--help"), "this text (also -h and help)");
+    add(String::from("--version"), "the version");
+    text
+}
 
 /// Prints a text for people on standard output.
 pub fn print(text: &str) -> Ending {

@@ -1,23 +1,28 @@
 //! The tool that people run: starts the command that the command line names.
 
+// The commands that use all of the shared modules are on their way.
+#![allow(dead_code)]
+
 mod ask;
 mod command_line;
 mod ending;
+mod explain;
 mod help;
+mod images;
+mod layout;
 mod mailbox;
+mod names;
+mod numbers;
+mod refusals;
+mod terminal;
+mod words;
 
-use command_line::Command;
 use ending::Ending;
 use std::process::ExitCode;
 
 fn main() -> ExitCode {
     let ending = match command_line::read(std::env::args_os().skip(1)) {
-        Ok(Command::Help) => help::print(help::TEXT),
-        Ok(Command::Version) => help::print(help::VERSION),
-        Ok(Command::AskHelp) => help::print(&ask::help()),
-        Ok(Command::Ask { file }) => ask::run(file),
-        Ok(Command::MailboxHelp) => help::print(mailbox::HELP),
-        Ok(Command::Mailbox { file }) => mailbox::run(file),
+        Ok(job) => job(),
         Err(wrong) => {
             eprintln!("{wrong}");
             Ending::WrongWords

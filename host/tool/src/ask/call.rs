@@ -56,6 +56,12 @@ impl BadLine {
     }
 }
 
+impl From<String> for BadLine {
+    fn from(reason: String) -> BadLine {
+        BadLine::new(reason)
+    }
+}
+
 #[cfg(test)]
 mod tests {
     use super::*;

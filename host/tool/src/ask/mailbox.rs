@@ -149,7 +149,7 @@ pub fn asked_post(words: &[&[u8]]) -> Result<(u32, u32, u16), BadLine> {
 
 /// The caller of a `post` or a `take`, by the words after its name.
 pub fn asked_caller(words: &[&[u8]]) -> Result<u32, BadLine> {
-    number32("CALLER", words[0])
+    Ok(number32("CALLER", words[0])?)
 }
 
 /// A mailbox as `mailbox-of` describes it.

@@ -13,12 +13,22 @@ pub mod lines;
 pub mod mailbox;
 mod view;
 
+use crate::command_line::{Command, Job};
 use crate::ending::Ending;
 use buffers::Buffers;
 use call::{BadLine, Call};
 use std::ffi::{OsStr, OsString};
 use std::fs::File;
 use std::io::{self, BufRead, BufReader, Write};
+use std::os::unix::ffi::OsStrExt;
+
+pub static COMMAND: Command = Command {
+    name: "ask",
+    words: "[FILE]",
+    does: "answer the calls in FILE, or on standard input: a line a call, a line its answer",
+    help,
+    read: read_words,
+};
 
 /// The calls of each subject, in the order in which the help shows them.
 static TABLES: &[&[Call]] = &[
@@ -44,8 +54,28 @@ enum Stopped {
     Writing(io::Error),
 }
 
+/// Reads the words after `ask`.
+fn read_words(words: &[OsString]) -> Result<Job, String> {
+    match words {
+        [] => Ok(Box::new(|| run(None))),
+        [option] if option.as_bytes().starts_with(b"-") => Err(format!(
+            "ask has no option {option:?}. Name a file of calls, or none to read \
+             standard input; `kpalumere ask --help` has the calls."
+        )),
+        [name] => {
+            let file = Some(name.clone());
+            Ok(Box::new(|| run(file)))
+        }
+        [_, more @ ..] => Err(format!(
+            "ask takes one file, and {} words follow it. Join the files, as in \
+             `cat A B | kpalumere ask`.",
+            more.len()
+        )),
+    }
+}
+
 /// Answers the calls of a file, or of standard input where none is named.
-pub fn run(file: Option<OsString>) -> Ending {
+fn run(file: Option<OsString>) -> Ending {
     let mut answers = io::stdout().lock();
     let ended = match &file {
         None => converse(&mut io::stdin().lock(), &mut answers),
@@ -123,7 +153,7 @@ fn answer_to(state: &mut State, name: &[u8], words: &[&[u8]]) -> Result<String, 
 }
 
 /// The help of `ask`: how a line is written, and every call, subject by subject.
-pub fn help() -> String {
+fn help() -> String {
     /// How many columns a call takes before the text on it. A longer one has a line of its own.
     const COLUMNS: usize = 36;
     let mut text = String::from(LANGUAGE);

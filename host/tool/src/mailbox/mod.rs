@@ -6,14 +6,24 @@ mod names;
 mod recording;
 mod report;
 
+use crate::command_line::{Command, Job};
 use crate::ending::Ending;
 use crate::help;
 use recording::{Recording, WrongLine};
 use std::ffi::{OsStr, OsString};
 use std::io::{self, Read};
+use std::os::unix::ffi::OsStrExt;
+
+pub static COMMAND: Command = Command {
+    name: "mailbox",
+    words: "[FILE]",
+    does: "play a recording of the mailbox: what each caller asked, and what it was answered",
+    help: || HELP.to_string(),
+    read: read_words,
+};
 
 /// What `mailbox --help` prints.
-pub const HELP: &str = "\
+const HELP: &str = "\
 kpalumere mailbox [FILE]: plays a recording of the mailbox and shows, for each caller, what it asked and what it was answered.
 
 A recording is a file of calls as `kpalumere ask` reads them, a line a call; # starts a comment. It is read from FILE, or
@@ -36,8 +46,29 @@ Status: 0 where every line was a call and none was refused, 1 where a line was n
 2 where the command line is wrong, 3 where the recording cannot be read or the output cannot be written.
 ";
 
+/// Reads the words after `mailbox`.
+fn read_words(words: &[OsString]) -> Result<Job, String> {
+    match words {
+        [] => Ok(Box::new(|| run(None))),
+        [word] if word == "-" => Ok(Box::new(|| run(None))),
+        [option] if option.as_bytes().starts_with(b"-") => Err(format!(
+            "mailbox has no option {option:?}. Name a recording, or none to read \
+             standard input; `kpalumere mailbox --help` says what a recording is."
+        )),
+        [name] => {
+            let file = Some(name.clone());
+            Ok(Box::new(|| run(file)))
+        }
+        [_, more @ ..] => Err(format!(
+            "mailbox plays one recording, and {} words follow its name. Join the files, \
+             as in `cat A B | kpalumere mailbox`; `kpalumere mailbox --help` says more.",
+            more.len()
+        )),
+    }
+}
+
 /// Plays the recording of a file, or of standard input where none is named.
-pub fn run(file: Option<OsString>) -> Ending {
+fn run(file: Option<OsString>) -> Ending {
     let bytes = match read(file.as_deref()) {
         Ok(bytes) => bytes,
         Err(error) => {

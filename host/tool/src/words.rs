@@ -1,0 +1,205 @@
+//! The words that follow a command: which of them are options, which are not, and how a message shows one.
+
+use std::ffi::{OsStr, OsString};
+use std::os::unix::ffi::{OsStrExt, OsStringExt};
+
+/// An option of a command.
+pub struct CommandOption {
+    /// With its two hyphens.
+    pub name: &'static str,
+    /// What follows it, as the help shows it; none where it stands alone.
+    pub takes: Option<&'static str>,
+}
+
+/// The words that follow a command, once its options are taken out.
+#[derive(Debug, PartialEq, Eq)]
+pub struct Words {
+    command: &'static str,
+    options: Vec<(&'static str, Option<OsString>)>,
+    /// The words that are no options, in their order.
+    pub others: Vec<OsString>,
+}
+
+impl Words {
+    /// Parts the words of a command. An option may stand anywhere; `NAME VALUE` and `NAME=VALUE` mean the same; after `--`
+    /// no word is an option, and `-` is none. The error says what is wrong and what to do.
+    pub fn part(
+        command: &'static str,
+        options: &'static [CommandOption],
+        words: &[OsString],
+    ) -> Result<Words, String> {
+        let mut parted = Words {
+            command,
+            options: Vec::new(),
+            others: Vec::new(),
+        };
+        let mut words = words.iter();
+        while let Some(word) = words.next() {
+            let bytes = word.as_bytes();
+            if bytes == b"--" {
+                parted.others.extend(words.cloned());
+                break;
+            }
+            if bytes == b"-" || !bytes.starts_with(b"-") {
+                parted.others.push(word.clone());
+                continue;
+            }
+            let end = bytes.iter().position(|&byte| byte == b'=');
+            let name = &bytes[..end.unwrap_or(bytes.len())];
+            let option = options
+                .iter()
+                .find(|option| option.name.as_bytes() == name)
+                .ok_or_else(|| {
+                    parted.wrong(&format!(
+                        "has no option {}; a file of that name is given after `--`",
+                        shown(name)
+                    ))
+                })?;
+            let joined = end.map(|end| OsString::from_vec(bytes[end + 1..].to_vec()));
+            let value = match (option.takes, joined) {
+                (None, None) => None,
+                (None, Some(_)) => {
+                    return Err(parted.wrong(&format!("lets nothing follow {}", option.name)))
+                }
+                (Some(_), Some(value)) => Some(value),
+                (Some(takes), None) => Some(words.next().cloned().ok_or_else(|| {
+                    parted.wrong(&format!("wants {takes} after {}", option.name))
+                })?),
+            };
+            if parted.has(option.name) {
+                return Err(parted.wrong(&format!("takes {} once", option.name)));
+            }
+            parted.options.push((option.name, value));
+        }
+        Ok(parted)
+    }
+
+    /// Whether an option is given.
+    pub fn has(&self, option: &str) -> bool {
+        self.options.iter().any(|(name, _)| *name == option)
+    }
+
+    /// What follows an option, where it is given.
+    pub fn value(&self, option: &str) -> Option<&OsStr> {
+        let given = self.options.iter().find(|(name, _)| *name == option);
+        given.and_then(|(_, value)| value.as_deref())
+    }
+
+    /// Checks that the words that are no options are these and no more; a role in brackets, as in `[SUB]`, may be missing.
+    pub fn expect(&self, roles: &[&str]) -> Result<(), String> {
+        let given = self.others.len();
+        match roles.get(given) {
+            Some(missing) if !missing.starts_with('[') => {
+                return Err(self.wrong(&format!("lacks {missing}")))
+            }
+            _ => (),
+        }
+        match self.others.get(roles.len()) {
+            Some(more) => Err(self.wrong(&format!(
+                "does not take the word {}",
+                shown(more.as_bytes())
+            ))),
+            None => Ok(()),
+        }
+    }
+
+    /// The message for words that are wrong: what is wrong, and where the right ones stand.
+    pub fn wrong(&self, what: &str) -> String {
+        let command = self.command;
+        format!("{command} {what}. `kpalumere {command} --help` has its words.")
+    }
+}
+
+/// A word as a message shows it: on one line, in characters that any terminal has, and cut where it is long.
+pub fn shown(word: &[u8]) -> String {
+    const MOST: usize = 40;
+    let start = &word[..word.len().min(MOST)];
+    let rest = if word.len() > MOST { "..." } else { "" };
+    format!("'{}{rest}'", start.escape_ascii())
+}
+
+#[cfg(test)]
+mod tests {
+    use super::*;
+
+    static OPTIONS: &[CommandOption] = &[
+        CommandOption {
+            name: "--json",
+            takes: None,
+        },
+        CommandOption {
+            name: "--out",
+            takes: Some("FILE"),
+        },
+    ];
+
+    fn part(words: &[&str]) -> Result<Words, String> {
+        let words: Vec<OsString> = words.iter().map(OsString::from).collect();
+        Words::part("find", OPTIONS, &words)
+    }
+
+    #[test]
+    fn options_stand_anywhere_and_the_other_words_keep_their_order() {
+        for words in [
+            ["a", "--json", "b", "--out", "c"],
+            ["--out", "c", "a", "b", "--json"],
+        ] {
+            let parted = part(&words).unwrap();
+            assert_eq!(parted.others, ["a", "b"]);
+            assert!(parted.has("--json"));
+            assert_eq!(parted.value("--out"), Some(OsStr::new("c")));
+        }
+        let parted = part(&["--out=a=b", "-"]).unwrap();
+        assert_eq!(parted.value("--out"), Some(OsStr::new("a=b")));
+        assert_eq!(parted.others, ["-"]);
+        assert!(!parted.has("--json"));
+        assert_eq!(parted.value("--json"), None);
+    }
+
+    #[test]
+    fn after_two_hyphens_no_word_is_an_option() {
+        let parted = part(&["--", "--json", "--"]).unwrap();
+        assert_eq!(parted.others, ["--json", "--"]);
+        assert!(!parted.has("--json"));
+    }
+
+    #[test]
+    fn wrong_options_are_told() {
+        for (words, what) in [
+            (&["--jsn"][..], "has no option '--jsn'; "),
+            (&["-j"], "has no option '-j'; "),
+            (&["--jso=x"], "has no option '--jso'; "),
+            (&["--json=x"], "lets nothing follow --json. "),
+            (&["--out"], "wants FILE after --out. "),
+            (&["--json", "a", "--json"], "takes --json once. "),
+            (&["--out", "a", "--out=b"], "takes --out once. "),
+        ] {
+            let message = part(words).unwrap_err();
+            assert!(message.starts_with(&format!("find {what}")), "{message}");
+            assert!(message.ends_with("`kpalumere find --help` has its words."));
+        }
+    }
+
+    #[test]
+    fn too_few_and_too_many_words_are_told() {
+        let roles = ["IMAGE", "TYPE", "[SUB]"];
+        for words in [&["a", "b"][..], &["a", "b", "c"]] {
+            assert_eq!(part(words).unwrap().expect(&roles), Ok(()));
+        }
+        for (words, what) in [
+            (&[][..], "find lacks IMAGE. "),
+            (&["a"], "find lacks TYPE. "),
+            (&["a", "b", "c", "d"], "find does not take the word 'd'. "),
+        ] {
+            let message = part(words).unwrap().expect(&roles).unwrap_err();
+            assert!(message.starts_with(what), "{message}");
+        }
+    }
+
+    #[test]
+    fn a_shown_word_is_one_short_line_of_plain_characters() {
+        assert_eq!(shown(b"a b"), "'a b'");
+        assert_eq!(shown(b"\xff\n"), "'\\xff\\n'");
+        assert_eq!(shown(&[b'x'; 41]), format!("'{}...'", "x".repeat(40)));
+    }
+}
