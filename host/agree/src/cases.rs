@@ -1,4 +1,4 @@
-//! The recorded cases: `host/cases/NAME.ask`, a script, and `NAME.answers`, what both programs must answer.
+//! The recorded cases: `NAME.ask`, a script, and `NAME.answers`, what both programs must answer, in `host/cases` and its folders.
 
 use std::ffi::OsStr;
 use std::fs;
@@ -7,8 +7,9 @@ use std::path::{Path, PathBuf};
 
 /// A recorded case.
 pub struct Case {
+    /// Its name from the folder of cases on.
     pub name: String,
-    /// The name of its script in the folder of cases.
+    /// The name of its script from there on.
     pub file: PathBuf,
     pub script: Vec<u8>,
     /// The answers, one a line; of a bad line only the words `bad line`.
@@ -46,14 +47,19 @@ fn read(name: String) -> io::Result<Case> {
     })
 }
 
-/// The names of the files with an ending, without it.
+/// The names of the files with an ending, without it, each from the folder of cases on: `images/NAME` in a folder of it.
 fn names_with(ending: &str) -> io::Result<Vec<String>> {
     let mut names = Vec::new();
-    for entry in fs::read_dir(folder())? {
-        let path = entry?.path();
-        if path.extension() == Some(OsStr::new(ending)) {
-            let stem = path.file_stem().unwrap_or_default();
-            names.push(stem.to_string_lossy().into_owned());
+    let mut folders = vec![PathBuf::new()];
+    while let Some(inner) = folders.pop() {
+        for entry in fs::read_dir(folder().join(&inner))? {
+            let entry = entry?;
+            let path = inner.join(entry.file_name());
+            if entry.file_type()?.is_dir() {
+                folders.push(path);
+            } else if path.extension() == Some(OsStr::new(ending)) {
+                names.push(path.with_extension("").to_string_lossy().into_owned());
+            }
         }
     }
     Ok(names)
