@@ -89,6 +89,12 @@ fn text_of(guid: &[u8]) -> String {
     .join("-")
 }
 
+/// A GUID that differs from another in its last digit alone.
+fn one_digit_off(guid: &str) -> String {
+    let (first, last) = guid.split_at(guid.len() - 1);
+    format!("{first}{}", if last == "0" { '1' } else { '0' })
+}
+
 /// The table of an image, by this test's own reading; none where there is no footer. A footer before a table that cannot
 /// be read stops the test: no image of the package has one.
 fn table_of(image: &[u8]) -> Option<Table> {
@@ -162,8 +168,10 @@ fn list(path: &Path, image: &[u8], table: &Table) -> Vec<String> {
         "guids i",
         &format!("ok total={} entries={count}", table.total),
     );
-    let guids = table.entries.iter().map(|entry| entry.guid.as_str());
-    for guid in guids.chain(KNOWN).chain(ABSENT) {
+    let guids = table.entries.iter().map(|entry| entry.guid.clone());
+    let near = guids.clone().map(|guid| one_digit_off(&guid));
+    let known = KNOWN.iter().chain(&ABSENT).map(|guid| guid.to_string());
+    for guid in guids.chain(near).chain(known) {
         // The one nearest the footer is found.
         let answer = match table.entries.iter().position(|entry| entry.guid == guid) {
             None => format!("refused 8 tested={count}"),
