@@ -6,7 +6,7 @@ use std::path::{Path, PathBuf};
 use std::process::{Child, Command, Stdio};
 use std::sync::mpsc;
 use std::thread;
-use std::time::Duration;
+use std::time::{Duration, Instant};
 
 /// How long a program may take for one script. Emulated and on a busy machine the longest takes a few seconds.
 const LONGEST: Duration = Duration::from_secs(300);
@@ -117,16 +117,30 @@ pub fn run(mut command: Command, input: &[u8]) -> Run {
         .spawn()
         .unwrap_or_else(|error| panic!("{command:?} cannot be started: {error}"));
     let mut to_child = child.stdin.take().expect("standard input is a pipe");
-    let answers = read_all(child.stdout.take().expect("standard output is a pipe"));
-    let said = read_all(child.stderr.take().expect("standard error is a pipe"));
     let input = input.to_vec();
     // A program that ends early closes its input: what it answered until then is what counts.
     let writing = thread::spawn(move || drop(to_child.write_all(&input)));
-    let mut limit = LONGEST;
-    let answers = within(&answers, &mut limit, &mut child);
-    let said = within(&said, &mut limit, &mut child);
-    let status = child.wait().expect("a child can be waited for").code();
+    let run = end_of(child, LONGEST);
     writing.join().expect("the writer ends with the child");
+    run
+}
+
+/// Waits for the end of a child, and for what it wrote into pipes. One that goes on for too long is stopped, and its status
+/// is then none.
+pub fn end_of(mut child: Child, longest: Duration) -> Run {
+    let deadline = Instant::now() + longest;
+    let answers = child.stdout.take().map(read_all);
+    let said = child.stderr.take().map(read_all);
+    let answers = within(answers, deadline, &mut child);
+    let said = within(said, deadline, &mut child);
+    let status = loop {
+        match child.try_wait().expect("a child can be waited for") {
+            Some(status) => break status.code(),
+            None if Instant::now() > deadline => drop(child.kill()),
+            None => (),
+        }
+        thread::sleep(Duration::from_millis(1));
+    };
     Run {
         answers,
         said,
@@ -146,14 +160,16 @@ fn read_all(mut pipe: impl Read + Send + 'static) -> mpsc::Receiver<Vec<u8>> {
     receiver
 }
 
-/// Waits for what a pipe gave. A program that goes on for too long is stopped, and its status is then none.
-fn within(pipe: &mpsc::Receiver<Vec<u8>>, limit: &mut Duration, child: &mut Child) -> Vec<u8> {
-    match pipe.recv_timeout(*limit) {
-        Ok(bytes) => bytes,
-        Err(_) => {
-            drop(child.kill());
-            *limit = Duration::from_secs(10);
-            pipe.recv_timeout(*limit).unwrap_or_default()
-        }
-    }
+/// Waits for what a pipe gave, where there is one. A program that goes on for too long is stopped.
+fn within(pipe: Option<mpsc::Receiver<Vec<u8>>>, deadline: Instant, child: &mut Child) -> Vec<u8> {
+    let pipe = match pipe {
+        Some(pipe) => pipe,
+        None => return Vec::new(),
+    };
+    let left = deadline.saturating_duration_since(Instant::now());
+    pipe.recv_timeout(left).unwrap_or_else(|_| {
+        drop(child.kill());
+        let rest = pipe.recv_timeout(Duration::from_secs(10));
+        rest.unwrap_or_default()
+    })
 }

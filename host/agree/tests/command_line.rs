@@ -103,16 +103,3 @@ fn a_reader_that_has_seen_enough_is_no_fault() {
         (Some(0), String::new())
     );
 }
-
-#[test]
-fn output_that_cannot_be_written_ends_with_3() {
-    for words in [&["--help"][..], &["ask", "lines.ask"]] {
-        let full = std::fs::OpenOptions::new()
-            .write(true)
-            .open("/dev/full")
-            .unwrap();
-        let output = command(words).stdout(full).output().unwrap();
-        assert_eq!(output.status.code(), Some(3), "{words:?}");
-        assert!(text(&output.stderr).contains("cannot be written"));
-    }
-}

@@ -3,10 +3,11 @@
 use crate::lines::{bad, quoted, BadLine};
 use std::collections::HashMap;
 use std::ffi::OsStr;
-use std::fs::File;
+use std::fs::{self, File};
 use std::io::{self, Read};
 use std::ops::Range;
 use std::os::unix::ffi::OsStrExt;
+use std::os::unix::fs::FileTypeExt;
 
 /// The longest buffer.
 pub const LONGEST: u64 = 67_108_864;
@@ -100,8 +101,13 @@ fn unknown<T>(name: &[u8]) -> Result<T, BadLine> {
 
 /// The file's bytes; of a file that is too long, one byte more than a buffer may have.
 fn file_bytes(path: &[u8]) -> io::Result<Vec<u8>> {
+    let path = OsStr::from_bytes(path);
+    // A pipe that nobody writes to would be waited for without end.
+    if fs::metadata(path)?.file_type().is_fifo() {
+        return Err(io::ErrorKind::Unsupported.into());
+    }
     let mut bytes = Vec::new();
-    File::open(OsStr::from_bytes(path))?
+    File::open(path)?
         .take(LONGEST + 1)
         .read_to_end(&mut bytes)?;
     Ok(bytes)

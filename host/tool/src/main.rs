@@ -13,7 +13,9 @@ mod layout;
 mod mailbox;
 mod names;
 mod numbers;
+mod opening;
 mod refusals;
+mod standard_error;
 mod terminal;
 mod words;
 

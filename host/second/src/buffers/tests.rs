@@ -1,6 +1,6 @@
 use super::*;
 use std::path::PathBuf;
-use std::{env, fs, process};
+use std::{env, process};
 
 /// A file of that length for one test, gone at its end.
 struct Scratch(PathBuf);

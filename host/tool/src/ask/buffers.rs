@@ -3,9 +3,9 @@
 use super::call::{BadLine, Call};
 use super::lines::{as_hex, hex, name, number, number8, shown};
 use super::State;
+use crate::opening::open;
 use std::collections::BTreeMap;
 use std::ffi::OsStr;
-use std::fs::File;
 use std::io::Read;
 use std::ops::Range;
 use std::os::unix::ffi::OsStrExt;
@@ -102,7 +102,7 @@ fn buffer(state: &mut State, words: &[&[u8]]) -> Result<String, BadLine> {
 fn file(state: &mut State, words: &[&[u8]]) -> Result<String, BadLine> {
     let name = name("NAME", words[0])?;
     let mut bytes = Vec::new();
-    File::open(OsStr::from_bytes(words[1]))
+    open(OsStr::from_bytes(words[1]))
         .and_then(|file| file.take(MOST_BYTES + 1).read_to_end(&mut bytes))
         .map_err(|error| {
             BadLine::new(format!(

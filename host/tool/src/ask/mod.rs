@@ -15,11 +15,12 @@ mod view;
 
 use crate::command_line::{Command, Job};
 use crate::ending::Ending;
+use crate::opening::open;
+use crate::standard_error::say;
 use buffers::Buffers;
 use call::{BadLine, Call};
 use std::ffi::{OsStr, OsString};
-use std::fs::File;
-use std::io::{self, BufRead, BufReader, Write};
+use std::io::{self, BufRead, BufReader, Read, Write};
 use std::os::unix::ffi::OsStrExt;
 
 pub static COMMAND: Command = Command {
@@ -40,6 +41,9 @@ static TABLES: &[&[Call]] = &[
     &guids::CALLS,
     &mailbox::CALLS,
 ];
+
+/// The most bytes that a line may have: twice as many as it takes to write over the largest buffer.
+const LONGEST_LINE: u64 = 1 << 28;
 
 /// What the program keeps from one call to the next.
 #[derive(Default)]
@@ -79,8 +83,8 @@ fn run(file: Option<OsString>) -> Ending {
     let mut answers = io::stdout().lock();
     let ended = match &file {
         None => converse(&mut io::stdin().lock(), &mut answers),
-        Some(name) => match File::open(name) {
-            Ok(open) => converse(&mut BufReader::new(open), &mut answers),
+        Some(name) => match open(name) {
+            Ok(file) => converse(&mut BufReader::new(file), &mut answers),
             Err(error) => Err(Stopped::Reading(error)),
         },
     };
@@ -88,7 +92,7 @@ fn run(file: Option<OsString>) -> Ending {
         Ok(ending) => ending,
         Err(Stopped::Writing(error)) => Ending::of_unwritten(&error),
         Err(Stopped::Reading(error)) => {
-            eprintln!("{}", unread(file.as_deref(), &error));
+            say(&unread(file.as_deref(), &error));
             Ending::NotReadOrWritten
         }
     }
@@ -115,7 +119,7 @@ fn converse(calls: &mut dyn BufRead, answers: &mut dyn Write) -> Result<Ending, 
     let mut line = Vec::new();
     for line_number in 1u64.. {
         line.clear();
-        let read = calls.read_until(b'\n', &mut line);
+        let read = read_line(calls, &mut line, LONGEST_LINE);
         if read.map_err(Stopped::Reading)? == 0 {
             break;
         }
@@ -134,6 +138,17 @@ fn converse(calls: &mut dyn BufRead, answers: &mut dyn Write) -> Result<Ending, 
             .map_err(Stopped::Writing)?;
     }
     Ok(ending)
+}
+
+/// Reads a line with its end, and tells its length, which is 0 where there is no line more. A longer one than `most` bytes
+/// is an error: it is not kept, and a device without end is not read for ever.
+fn read_line(calls: &mut dyn BufRead, line: &mut Vec<u8>, most: u64) -> io::Result<usize> {
+    let read = Read::take(calls, most + 1).read_until(b'\n', line)?;
+    if read as u64 > most {
+        let text = format!("a line has more than {most} bytes, which no call needs");
+        return Err(io::Error::new(io::ErrorKind::InvalidData, text));
+    }
+    Ok(read)
 }
 
 /// The answer to one call, given its name and the words after it.
@@ -207,6 +222,22 @@ mod tests {
             assert_eq!(answers.len(), 3, "{line}");
             assert!(answers[1].starts_with("bad line: "), "{line}: {answers:?}");
             assert_eq!(answers[0], answers[2], "{line}");
+        }
+    }
+
+    #[test]
+    fn a_line_may_be_as_long_as_the_limit_and_no_longer() {
+        let read = |lines: &[u8]| {
+            let mut line = Vec::new();
+            let read = read_line(&mut &lines[..], &mut line, 4);
+            read.map(|_| line).map_err(|error| error.to_string())
+        };
+        assert_eq!(read(b""), Ok(Vec::new()));
+        assert_eq!(read(b"abc\nd"), Ok(b"abc\n".to_vec()));
+        assert_eq!(read(b"abcd"), Ok(b"abcd".to_vec()));
+        for lines in [&b"abcd\n"[..], b"abcde", b"abcdefgh\n"] {
+            let message = read(lines).unwrap_err();
+            assert!(message.starts_with("a line has more than 4 bytes"));
         }
     }
 

@@ -9,6 +9,9 @@ mod report;
 use crate::command_line::{Command, Job};
 use crate::ending::Ending;
 use crate::help;
+use crate::images::MOST;
+use crate::opening::open;
+use crate::standard_error::say;
 use recording::{Recording, WrongLine};
 use std::ffi::{OsStr, OsString};
 use std::io::{self, Read};
@@ -43,7 +46,8 @@ Try it:
   printf 'post 1 0x81 0\\npost 2 0x80 0\\nload\\nturn\\nunload\\ntake 1\\n' | kpalumere mailbox
 
 Status: 0 where every line was a call and none was refused, 1 where a line was no call (it is left out) or a call was refused,
-2 where the command line is wrong, 3 where the recording cannot be read or the output cannot be written.
+2 where the command line is wrong, 3 where the recording cannot be read or has more than 67,108,864 bytes, or the output
+cannot be written.
 ";
 
 /// Reads the words after `mailbox`.
@@ -72,13 +76,13 @@ fn run(file: Option<OsString>) -> Ending {
     let bytes = match read(file.as_deref()) {
         Ok(bytes) => bytes,
         Err(error) => {
-            eprintln!("{}", unread(file.as_deref(), &error));
+            say(&unread(file.as_deref(), &error));
             return Ending::NotReadOrWritten;
         }
     };
     let recording = Recording::play(&bytes);
     for wrong in &recording.wrong {
-        eprintln!("{}", left_out(file.as_deref(), wrong));
+        say(&left_out(file.as_deref(), wrong));
     }
     match help::print(&report::of(&recording)) {
         Ending::Done => ending(&recording),
@@ -86,15 +90,19 @@ fn run(file: Option<OsString>) -> Ending {
     }
 }
 
+/// The bytes of a recording, which is kept whole and so has a limit.
 fn read(file: Option<&OsStr>) -> io::Result<Vec<u8>> {
-    match file {
-        Some(name) => std::fs::read(name),
-        None => {
-            let mut bytes = Vec::new();
-            io::stdin().lock().read_to_end(&mut bytes)?;
-            Ok(bytes)
-        }
+    let input: Box<dyn Read> = match file {
+        Some(name) => Box::new(open(name)?),
+        None => Box::new(io::stdin()),
+    };
+    let mut bytes = Vec::new();
+    input.take(MOST + 1).read_to_end(&mut bytes)?;
+    if bytes.len() as u64 > MOST {
+        let text = format!("it has more than {MOST} bytes");
+        return Err(io::Error::new(io::ErrorKind::InvalidData, text));
     }
+    Ok(bytes)
 }
 
 /// How a run ends whose report is written.

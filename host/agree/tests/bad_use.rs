@@ -1,0 +1,482 @@
+//! Bad use of the tool: files that are none, streams that are closed or full, scripts that are cut off or are noise. Whatever
+//! it is given, a command ends by itself, with a status of its own and a message that says what is wrong.
+
+use agree::cases;
+use agree::compare::answers_of;
+use agree::programs::{built, end_of, run, Program, Run};
+use agree::random::Random;
+use std::ffi::{OsStr, OsString};
+use std::fs::{self, File, OpenOptions, Permissions};
+use std::os::unix::fs::{MetadataExt, PermissionsExt};
+use std::os::unix::net::UnixListener;
+use std::os::unix::process::CommandExt;
+use std::path::{Path, PathBuf};
+use std::process::{Command, Stdio};
+use std::time::Duration;
+
+/// A command that reads a file. One that is added to the tool gets a line in [`READERS`].
+struct Reader {
+    /// The command, with FILE where the file is named.
+    words: &'static [&'static str],
+    /// The same, where the bytes come over standard input.
+    over_input: &'static [&'static str],
+    /// A file of the folder of cases for which the command prints something, and the status that it then ends with.
+    good: (&'static str, i32),
+    /// The status for a file with no bytes, with 64 MiB of zeros, and with one byte more.
+    empty: i32,
+    largest: i32,
+    larger: i32,
+}
+
+/// Stands for the file's name in a command.
+const FILE: &str = "FILE";
+
+const READERS: [Reader; 2] = [
+    // A script is answered line by line, so that it may be of any length: the zeros are one bad line.
+    Reader {
+        words: &["ask", FILE],
+        over_input: &["ask"],
+        good: ("images/plain-board.ask", 0),
+        empty: 0,
+        largest: 1,
+        larger: 1,
+    },
+    Reader {
+        words: &["mailbox", FILE],
+        over_input: &["mailbox", "-"],
+        good: ("images/machine-6-two-programs.ask", 1),
+        empty: 0,
+        largest: 1,
+        larger: 3,
+    },
+];
+
+/// Commands that read nothing and print something.
+const PRINTERS: [&[&str]; 6] = [
+    &["--help"],
+    &["--version"],
+    &["help", "ask"],
+    &["ask", "--help"],
+    &["mailbox", "--help"],
+    &["explain", "8"],
+];
+
+/// How long a command may take. Emulated and on a busy machine the longest takes a few seconds.
+const LONGEST: Duration = Duration::from_secs(120);
+
+/// A folder for one test, gone at its end.
+struct Folder(PathBuf);
+
+impl Folder {
+    fn new(name: &str) -> Folder {
+        let name = format!("kpalumere-bad-use-{}-{name}", std::process::id());
+        let path = std::env::temp_dir().join(name);
+        fs::create_dir_all(&path).expect("a folder can be made");
+        Folder(path)
+    }
+
+    /// A file of so many zero bytes, which take no room on the disk.
+    fn zeros(&self, name: &str, length: u64) -> PathBuf {
+        let path = self.0.join(name);
+        let file = File::create(&path).expect("a file can be made");
+        file.set_len(length).expect("a file can have a hole");
+        path
+    }
+
+    /// A named pipe that nobody writes to.
+    fn pipe(&self) -> PathBuf {
+        let path = self.0.join("pipe");
+        let made = Command::new("mkfifo").arg(&path).status();
+        assert!(made.expect("mkfifo is there").success());
+        path
+    }
+}
+
+impl Drop for Folder {
+    fn drop(&mut self) {
+        drop(fs::remove_dir_all(&self.0));
+    }
+}
+
+impl Reader {
+    fn name(&self) -> &str {
+        self.words[0]
+    }
+
+    /// Its words on a file.
+    fn words_on(&self, file: &OsStr) -> Vec<OsString> {
+        let named = |word: &&str| match *word {
+            FILE => file.to_os_string(),
+            word => OsString::from(word),
+        };
+        self.words.iter().map(named).collect()
+    }
+
+    fn on(&self, file: &OsStr) -> Command {
+        tool(self.words_on(file))
+    }
+
+    fn over_input(&self) -> Command {
+        tool(texts(self.over_input))
+    }
+
+    /// Runs the command on bytes that come over standard input.
+    fn run_on(&self, input: &[u8]) -> Run {
+        let run = run(self.over_input(), input);
+        held(&self.over_input(), &run);
+        run
+    }
+}
+
+fn texts(words: &[&str]) -> Vec<OsString> {
+    words.iter().map(OsString::from).collect()
+}
+
+/// The tool with some words, to be started in the folder of cases.
+fn tool(words: Vec<OsString>) -> Command {
+    started(built("kpalumere"), words, &cases::folder())
+}
+
+/// A program with some words, to be started in a folder: nothing on standard input, and what it writes goes into pipes.
+fn started(program: Vec<OsString>, words: Vec<OsString>, folder: &Path) -> Command {
+    let program = Program::of_words("kpalumere", [program, words].concat());
+    let mut command = program.command(folder);
+    command
+        .stdin(Stdio::null())
+        .stdout(Stdio::piped())
+        .stderr(Stdio::piped());
+    command
+}
+
+/// Every command that there is, doing something that prints, with the status that it ends with.
+fn all_that_print() -> Vec<(Command, i32)> {
+    let readers = READERS.iter().map(|reader| {
+        let (file, status) = reader.good;
+        (reader.on(OsStr::new(file)), status)
+    });
+    let printers = PRINTERS.iter().map(|words| (tool(texts(words)), 0));
+    readers.chain(printers).collect()
+}
+
+/// Runs a command to its end. It must end by itself, with a status that the tool has, and without a panic; all that it
+/// says on standard error is in its own words.
+fn ended(command: &mut Command) -> Run {
+    let child = command
+        .spawn()
+        .unwrap_or_else(|error| panic!("{command:?} cannot be started: {error}"));
+    let run = end_of(child, LONGEST);
+    held(command, &run);
+    run
+}
+
+fn held(command: &Command, run: &Run) {
+    let said = String::from_utf8_lossy(&run.said);
+    assert!(
+        matches!(run.status, Some(0..=3)),
+        "{command:?} ends with {:?}, where none is that a signal ended it or it hung: {said}",
+        run.status
+    );
+    let own = said.lines().all(|line| line.starts_with("kpalumere: "));
+    assert!(own, "{command:?} says {said}");
+}
+
+/// Runs a command that cannot do its work: the status is 3, nothing is answered, and the message has these words.
+fn fails(command: &mut Command, words: &[&str]) {
+    let run = ended(command);
+    let said = String::from_utf8_lossy(&run.said);
+    let answered = String::from_utf8_lossy(&run.answers);
+    assert_eq!(
+        (run.status, &*answered),
+        (Some(3), ""),
+        "{command:?}: {said}"
+    );
+    for word in words {
+        assert!(said.contains(word), "{command:?} says no {word:?}: {said}");
+    }
+}
+
+/// The command with its streams changed by the shell, as in `<&-`.
+fn redirected(command: &Command, change: &str) -> Command {
+    let shell = texts(&["sh", "-c", &format!("exec \"$@\" {change}"), "sh"]);
+    let program = [command.get_program()].into_iter();
+    let words = program.chain(command.get_args()).map(OsStr::to_os_string);
+    started(shell, words.collect(), &cases::folder())
+}
+
+fn full() -> File {
+    let full = OpenOptions::new().write(true).open("/dev/full");
+    full.expect("the system has /dev/full")
+}
+
+/// A pipe to write to that nobody reads any more.
+fn unread_pipe() -> Stdio {
+    let mut reader = Command::new("true");
+    let mut reader = reader.stdin(Stdio::piped()).spawn().expect("true is there");
+    let pipe = reader.stdin.take().expect("standard input is a pipe");
+    reader.wait().expect("a child can be waited for");
+    Stdio::from(pipe)
+}
+
+#[test]
+fn a_command_that_hangs_is_found_out() {
+    for output in [Stdio::piped(), Stdio::null()] {
+        let mut sleeper = Command::new("sleep");
+        let child = sleeper.arg("1000").stdout(output).spawn();
+        let run = end_of(child.expect("sleep is there"), Duration::from_millis(50));
+        assert_eq!(run.status, None);
+    }
+}
+
+#[test]
+fn files_that_cannot_be_read() {
+    let folder = Folder::new("unreadable");
+    let socket = folder.0.join("socket");
+    let _listener = UnixListener::bind(&socket).expect("a socket can be made");
+    let pipe = folder.pipe();
+    for reader in &READERS {
+        for file in [
+            Path::new("there-is-none"),
+            Path::new(""),
+            Path::new("data"),
+            Path::new("/"),
+            Path::new("lines.ask/none"),
+            // A file that is there, and whose first byte nobody can read.
+            Path::new("/proc/self/mem"),
+            &socket,
+            &pipe,
+        ] {
+            let name = format!("{file:?}");
+            fails(
+                &mut reader.on(file.as_os_str()),
+                &[&name, "cannot be read", "Name a "],
+            );
+        }
+    }
+}
+
+#[test]
+fn a_file_that_its_mode_forbids_to_read() {
+    let folder = Folder::new("mode");
+    let file = folder.zeros("secret", 1);
+    fs::set_permissions(&file, Permissions::from_mode(0o000)).unwrap();
+    let is_root = fs::metadata("/proc/self").map_or(false, |own| own.uid() == 0);
+    // To root no mode forbids anything. Another user may have no way to where the tool was built, so it gets a copy.
+    let copy = folder.0.join("kpalumere");
+    let mut program = built("kpalumere");
+    fs::copy(program.last().unwrap(), &copy).expect("the tool can be copied");
+    *program.last_mut().unwrap() = copy.into_os_string();
+    for reader in &READERS {
+        let words = reader.words_on(file.as_os_str());
+        let mut command = started(program.clone(), words, &folder.0);
+        if is_root {
+            // Nobody, as every system has it.
+            command.uid(65_534).gid(65_534);
+        }
+        match command.spawn() {
+            Ok(child) => {
+                let run = end_of(child, LONGEST);
+                held(&command, &run);
+                assert_eq!(run.status, Some(3), "{command:?}");
+                let said = String::from_utf8_lossy(&run.said);
+                assert!(said.contains("Permission denied"), "{said}");
+            }
+            Err(error) => eprintln!("skipped: {} as nobody: {error}", reader.name()),
+        }
+    }
+}
+
+#[test]
+fn files_of_no_bytes_of_64_mib_and_of_one_byte_more() {
+    const MOST: u64 = 67_108_864;
+    let folder = Folder::new("lengths");
+    let files = [0, MOST, MOST + 1].map(|length| folder.zeros(&length.to_string(), length));
+    for reader in &READERS {
+        let due = [reader.empty, reader.largest, reader.larger];
+        for (file, status) in files.iter().zip(due) {
+            let mut command = reader.on(file.as_os_str());
+            assert_eq!(ended(&mut command).status, Some(status), "{command:?}");
+            let mut command = reader.over_input();
+            command.stdin(File::open(file).unwrap());
+            assert_eq!(ended(&mut command).status, Some(status), "{command:?}");
+        }
+    }
+}
+
+#[test]
+fn input_without_end_is_not_read_for_ever() {
+    for reader in &READERS {
+        let mut command = reader.on(OsStr::new("/dev/zero"));
+        fails(&mut command, &["\"/dev/zero\"", "has more than"]);
+        let mut command = reader.over_input();
+        command.stdin(File::open("/dev/zero").unwrap());
+        fails(&mut command, &["standard input", "has more than"]);
+    }
+}
+
+#[test]
+fn input_that_is_a_folder_or_is_closed() {
+    for reader in &READERS {
+        let mut command = reader.over_input();
+        command.stdin(File::open("/").unwrap());
+        fails(&mut command, &["standard input cannot be read"]);
+        // What is closed is as if it were empty.
+        let mut command = redirected(&reader.over_input(), "<&-");
+        assert_eq!(
+            ended(&mut command).status,
+            Some(reader.empty),
+            "{command:?}"
+        );
+    }
+}
+
+#[test]
+fn output_that_is_full() {
+    for (mut command, _) in all_that_print() {
+        fails(command.stdout(full()), &["cannot be written", "room"]);
+    }
+}
+
+#[test]
+fn output_that_nobody_reads_is_no_fault() {
+    for (mut command, status) in all_that_print() {
+        let run = ended(command.stdout(unread_pipe()));
+        // What was to be said is not known to be wrong: either all is well, or the status is that of the answers.
+        assert!([Some(0), Some(status)].contains(&run.status), "{command:?}");
+        assert_eq!(String::from_utf8_lossy(&run.said), "", "{command:?}");
+    }
+}
+
+#[test]
+fn output_that_is_closed() {
+    for (command, status) in all_that_print() {
+        let run = ended(&mut redirected(&command, ">&-"));
+        assert_eq!(run.status, Some(status), "{command:?}");
+        let run = ended(&mut redirected(&command, "<&- >&- 2>&-"));
+        assert_eq!(run.status, Some(status), "{command:?}");
+    }
+}
+
+#[test]
+fn messages_that_cannot_be_written() {
+    for reader in &READERS {
+        for change in ["2>&-", "2>/dev/full"] {
+            let missing = reader.on(OsStr::new("there-is-none"));
+            let run = ended(&mut redirected(&missing, change));
+            assert_eq!(run.status, Some(3), "{missing:?} {change}");
+        }
+        let mut missing = reader.on(OsStr::new("there-is-none"));
+        let run = ended(missing.stderr(unread_pipe()));
+        assert_eq!(run.status, Some(3), "{missing:?}");
+    }
+    // A recording with lines that are left out: each has a message, before what is shown.
+    let mut recording = tool(texts(&["mailbox", "lines.ask"]));
+    let all_is_well = ended(&mut recording);
+    let shown = (all_is_well.status, &all_is_well.answers);
+    assert_eq!(shown.0, Some(1));
+    for unwritten in [Stdio::from(full()), unread_pipe()] {
+        let run = ended(recording.stderr(unwritten));
+        assert_eq!((run.status, &run.answers), shown);
+    }
+}
+
+#[test]
+fn scripts_that_are_cut_off() {
+    for reader in &READERS {
+        let whole = fs::read(cases::folder().join(reader.good.0)).unwrap();
+        for part in 1..24 {
+            let cut = &whole[..whole.len() * part / 24];
+            let status = reader.run_on(cut).status;
+            assert!(
+                matches!(status, Some(0 | 1)),
+                "{part}/24 for {}",
+                reader.name()
+            );
+        }
+    }
+    // What stands before the cut is answered as in the whole script; the line that is cut has an answer or none.
+    let case = cases::all().unwrap().into_iter();
+    let case = case.filter(|case| case.name == "images/plain-board").last();
+    let case = case.expect("there is a plain board");
+    let answers = answers_of(&case.answers);
+    for cut in (0..case.script.len()).step_by(97) {
+        let part = &case.script[..cut];
+        let run = Program::tool().answers_to(part, &cases::folder());
+        let found = answers_of(&run.answers);
+        let lines = part.iter().rposition(|&byte| byte == b'\n');
+        let lines = &part[..lines.map_or(0, |end| end + 1)];
+        let whole = Program::tool().answers_to(lines, &cases::folder());
+        let whole = answers_of(&whole.answers);
+        assert_eq!(whole, answers[..whole.len()], "cut at {cut}");
+        assert!(found.starts_with(&whole), "cut at {cut}");
+        assert!(found.len() <= whole.len() + 1, "cut at {cut}");
+    }
+}
+
+#[test]
+fn noise_as_a_script() {
+    for seed in 1..=4 {
+        let mut random = Random::from_seed(seed);
+        let noise = random.bytes(64 << 10);
+        // Noise of the letters that scripts are written in, so that words and calls come about.
+        let alphabet: Vec<&[u8]> = b" \n#-0x19afz"
+            .chunks(1)
+            .chain([
+                &b"show"[..],
+                b"buffer",
+                b"post",
+                b"take",
+                b"load",
+                b"mailbox",
+            ])
+            .collect();
+        let letters: Vec<u8> = (0..4096)
+            .flat_map(|_| random.pick(&alphabet).to_vec())
+            .collect();
+        for script in [&noise, &letters] {
+            for reader in &READERS {
+                let run = reader.run_on(script);
+                assert_eq!(run.status, Some(1), "{} with seed {seed}", reader.name());
+            }
+        }
+        let run = Program::tool().answers_to(&noise, &cases::folder());
+        let answers = answers_of(&run.answers);
+        let bad = answers.iter().all(|answer| answer == b"bad line");
+        assert!(bad && answers.len() > 100, "seed {seed}");
+    }
+}
+
+#[test]
+fn a_script_that_names_what_is_no_file() {
+    let folder = Folder::new("named");
+    folder.pipe();
+    let _listener = UnixListener::bind(folder.0.join("socket")).expect("a socket can be made");
+    for (path, answer) in [
+        ("pipe", "bad line"),
+        ("socket", "bad line"),
+        (".", "bad line"),
+        ("/", "bad line"),
+        ("there-is-none", "bad line"),
+        ("/proc/self/mem", "bad line"),
+        ("/dev/zero", "bad line"),
+        ("/dev/full", "bad line"),
+        ("/dev/null", "ok length=0"),
+    ] {
+        let script = format!("buffer a 2 7\nfile b {path}\nshow a 0 2\n");
+        for program in [Program::tool(), Program::second()] {
+            let mut command = program.command(&folder.0);
+            command.stdout(Stdio::piped()).stderr(Stdio::piped());
+            let input = folder.0.join("script");
+            fs::write(&input, &script).unwrap();
+            command.stdin(File::open(&input).unwrap());
+            let run = ended(&mut command);
+            let expected = format!("ok length=2\n{answer}\nbytes 0707\n");
+            let answers = answers_of(&run.answers);
+            assert_eq!(
+                answers,
+                answers_of(expected.as_bytes()),
+                "{}: {path}",
+                program.name
+            );
+        }
+    }
+}
