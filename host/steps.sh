@@ -134,9 +134,9 @@ check_exported_names() { # ARCHIVE
     printf 'the archive, the header and the bindings have the same calls: %s\n' "$(echo "$exported" | tr '\n' ' ')"
 }
 
-# Random calls, given to the tool and the second program. The seed is printed.
+# Random calls, given to the tool and the second program. The seed is printed. Of so many calls more than 50,000 come to the library.
 check_agreement() {
     choose_compilers
     # shellcheck disable=SC2086
-    $emulator "$root/host/target/$rust_target/release/agree" --calls "${KPALUMERE_CALLS:-10000}"
+    $emulator "$root/host/target/$rust_target/release/agree" --calls "${KPALUMERE_CALLS:-160000}"
 }

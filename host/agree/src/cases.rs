@@ -1,5 +1,7 @@
 //! The recorded cases: `NAME.ask`, a script, and `NAME.answers`, what both programs must answer, in `host/cases` and its folders.
 
+use crate::compare::{answers_of, departure, status_after};
+use crate::programs::{Program, Run};
 use std::ffi::OsStr;
 use std::fs;
 use std::io;
@@ -19,6 +21,29 @@ pub struct Case {
 /// The folder of the recorded cases. The programs are started in it, so that `file` finds what lies beside a case.
 pub fn folder() -> PathBuf {
     Path::new(env!("CARGO_MANIFEST_DIR")).join("../cases")
+}
+
+impl Case {
+    /// Tells where a program's answers are not those recorded, or nothing where they are; the script is given over
+    /// standard input.
+    pub fn departure_of(&self, program: &Program) -> Option<String> {
+        self.departure(
+            "over standard input",
+            &program.answers_to(&self.script, &folder()),
+        )
+    }
+
+    /// The same, and the script is given as a file.
+    pub fn departure_from_file(&self, program: &Program) -> Option<String> {
+        let run = program.answers_to_file(self.file.as_os_str(), &folder());
+        self.departure("from the file", &run)
+    }
+
+    fn departure(&self, how: &str, run: &Run) -> Option<String> {
+        let expected = answers_of(&self.answers);
+        departure(&self.script, &expected, status_after(&expected), run)
+            .map(|told| format!("{}.ask, {how}: {told}", self.name))
+    }
 }
 
 /// All recorded cases. A script without answers, or answers without a script, is an error.

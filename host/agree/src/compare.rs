@@ -5,7 +5,7 @@ use std::path::Path;
 use std::thread;
 
 /// What stands for the answer to a bad line. Its reason is for people, and each program has its own words.
-const BAD_LINE: &[u8] = b"bad line";
+pub const BAD_LINE: &[u8] = b"bad line";
 
 /// The answers that a program wrote, one a line, as they are compared.
 pub fn answers_of(written: &[u8]) -> Vec<Vec<u8>> {
@@ -60,13 +60,31 @@ pub fn departure(script: &[u8], expected: &[Vec<u8>], status: i32, run: &Run) ->
     None
 }
 
-/// Runs two programs on a script and tells the first place where they part, with the answers of the first.
+/// Two programs on one script.
+pub struct SideBySide {
+    /// What the first answered, and what the second did, as answers are compared.
+    pub answers: [Vec<Vec<u8>>; 2],
+    /// The first place where they part, in words; none where they do not.
+    pub parted: Option<String>,
+}
+
+impl SideBySide {
+    /// How many lines of the script show that they part: all up to the first answer that differs.
+    pub fn lines_to_part(&self, script: &[u8]) -> Option<usize> {
+        let [first, second] = &self.answers;
+        let equal = first.iter().zip(second).take_while(|(a, b)| a == b);
+        let place = equal.count();
+        calls_of(script).nth(place).map(|(line, _)| line)
+    }
+}
+
+/// Runs two programs on a script, both at the same time.
 pub fn set_side_by_side(
     first: &Program,
     second: &Program,
     script: &[u8],
     folder: &Path,
-) -> (Vec<Vec<u8>>, Option<String>) {
+) -> SideBySide {
     let (run, other) = thread::scope(|both| {
         let other = both.spawn(|| second.answers_to(script, folder));
         let run = first.answers_to(script, folder);
@@ -81,7 +99,10 @@ pub fn set_side_by_side(
                 format!("{first} is what is expected and {second} what is found; {told}")
             })
         });
-    (answers, parted)
+    SideBySide {
+        answers: [answers, answers_of(&other.answers)],
+        parted,
+    }
 }
 
 /// Tells what is wrong with a run whatever the other program did, so that two that fail alike do not count as equal.
@@ -127,7 +148,7 @@ fn said(run: &Run) -> String {
 }
 
 /// The calls of a script, each with its line number: the lines that must have an answer.
-fn calls_of(script: &[u8]) -> impl Iterator<Item = (usize, &[u8])> {
+pub fn calls_of(script: &[u8]) -> impl Iterator<Item = (usize, &[u8])> {
     let lines = script.split_inclusive(|&byte| byte == b'\n').enumerate();
     lines.filter_map(|(at, line)| {
         let ended = line.strip_suffix(b"\n");
@@ -241,6 +262,19 @@ mod tests {
             ..run("", 0)
         };
         assert!(unfit(script, &answers, &stopped).is_some());
+    }
+
+    #[test]
+    fn the_lines_up_to_the_first_difference_are_counted() {
+        let lines = |first: &str, second: &str| {
+            let answers = [first, second].map(|text| answers_of(text.as_bytes()));
+            let parted = None;
+            SideBySide { answers, parted }.lines_to_part(b"one\n# no call\ntwo\nthree\n")
+        };
+        assert_eq!(lines("ok\nok\nok\n", "no\nok\nok\n"), Some(1));
+        assert_eq!(lines("ok\nok\nok\n", "ok\nno\nok\n"), Some(3));
+        assert_eq!(lines("ok\nok\nok\n", "ok\n"), Some(3));
+        assert_eq!(lines("ok\nok\nok\n", "ok\nok\nok\n"), None);
     }
 
     #[test]

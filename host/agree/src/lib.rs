@@ -1,7 +1,9 @@
 //! Sets the tool and the second program side by side: two answers that differ are a fault in one of them.
 
+pub mod answers;
 pub mod cases;
 pub mod compare;
+pub mod difference;
 pub mod programs;
 pub mod random;
 pub mod search;

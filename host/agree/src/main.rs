@@ -1,32 +1,17 @@
 //! `agree`: random calls from a seed, given to the tool and to the second program.
 
-use agree::compare::shown;
+mod command_line;
+mod progress;
+
+use agree::answers::Tally;
+use agree::cases;
+use agree::difference::Difference;
 use agree::programs::{built_folder, Program};
-use agree::search::{search, Agreement, Difference};
-use agree::subjects::{Subject, SUBJECTS};
-use std::fs;
+use agree::search::{Agreement, Search};
+use command_line::{wanted, Wanted, HELP};
+use progress::Progress;
 use std::process::ExitCode;
-use std::time::{Instant, SystemTime, UNIX_EPOCH};
-
-const HELP: &str = "\
-agree: random calls, given to the tool and to the second program; two answers that differ are a fault in one.
-
-  agree [--calls N] [--seed S] [--subject NAME]...
-
-  --calls N        how many calls of each subject (10000 where it is not given)
-  --seed S         the number that the calls follow from (one from the clock where it is not given; it is printed)
-  --subject NAME   a subject to try (all of them where none is named)
-
-A difference is printed with the seed and with a script of a few lines that shows it; the script is also written to
-agree-difference.ask beside the programs. The last line is 'N passed, M failed', counting subjects.
-The status is 0 where all answers are equal, 1 where some differ, 2 for a wrong word.";
-
-/// What the command line asks for.
-struct Wanted {
-    calls: u64,
-    seed: u64,
-    subjects: Vec<&'static Subject>,
-}
+use std::time::{Duration, Instant};
 
 fn main() -> ExitCode {
     let words: Vec<String> = std::env::args().skip(1).collect();
@@ -34,139 +19,127 @@ fn main() -> ExitCode {
         println!("{HELP}");
         return ExitCode::SUCCESS;
     }
-    match wanted(&words) {
-        Ok(wanted) => try_all(&wanted),
+    let wanted = match wanted(&words) {
+        Ok(wanted) => wanted,
         Err(wrong) => {
             eprintln!("agree: {wrong}. `agree --help` has the words.");
-            ExitCode::from(2)
+            return ExitCode::from(2);
         }
-    }
-}
-
-/// Reads the command line. The error is what is wrong with it.
-fn wanted(words: &[String]) -> Result<Wanted, String> {
-    let clock = SystemTime::now().duration_since(UNIX_EPOCH);
-    let mut wanted = Wanted {
-        calls: 10_000,
-        seed: clock.map_or(0, |since| since.as_micros() as u64),
-        subjects: Vec::new(),
     };
-    let mut words = words.iter();
-    while let Some(option) = words.next() {
-        let value = words.next().ok_or(format!("{option:?} has no value"))?;
-        match option.as_str() {
-            "--calls" => wanted.calls = number(value)?,
-            "--seed" => wanted.seed = number(value)?,
-            "--subject" => {
-                let found = SUBJECTS.iter().find(|subject| subject.name == value);
-                let names: Vec<&str> = SUBJECTS.iter().map(|subject| subject.name).collect();
-                let missing = || format!("there is no subject {value:?}, but {names:?}");
-                wanted.subjects.push(found.ok_or_else(missing)?);
-            }
-            _ => return Err(format!("there is no option {option:?}")),
+    let all_agree = match wanted.cases {
+        true => try_cases(&wanted),
+        false => try_random_calls(&wanted),
+    };
+    ExitCode::from(u8::from(!all_agree))
+}
+
+/// The second program, or the one that is to take its place.
+fn second(wanted: &Wanted) -> Program {
+    match &wanted.second {
+        Some(path) => Program::in_place_of_second(path),
+        None => Program::second(),
+    }
+}
+
+/// The second program against the recorded answers. Gives whether all are as recorded.
+fn try_cases(wanted: &Wanted) -> bool {
+    let cases = match cases::all() {
+        Ok(cases) => cases,
+        Err(error) => {
+            println!("agree: the cases cannot be read: {error}\n0 passed, 1 failed");
+            return false;
         }
-    }
-    if wanted.subjects.is_empty() {
-        wanted.subjects = SUBJECTS.iter().collect();
-    }
-    Ok(wanted)
+    };
+    let second = second(wanted);
+    let departures = cases.iter().filter_map(|case| case.departure_of(&second));
+    let failed = departures.inspect(|told| println!("agree: {told}")).count();
+    println!("{} passed, {failed} failed", cases.len() - failed);
+    failed == 0
 }
 
-fn number(word: &str) -> Result<u64, String> {
-    word.parse()
-        .map_err(|_| format!("{word:?} is no number of at most 64 bits"))
-}
-
-fn try_all(wanted: &Wanted) -> ExitCode {
-    let (first, second) = (Program::tool(), Program::second());
+/// Random calls of each subject. Gives whether both programs agree on all.
+fn try_random_calls(wanted: &Wanted) -> bool {
+    let (first, second) = (Program::tool(), second(wanted));
+    let subjects = wanted.subjects.len();
     println!(
-        "agree: seed {}, {} calls a subject",
+        "agree: seed {}, {} calls in all, {subjects} subjects",
         wanted.seed, wanted.calls
     );
+    let began = Instant::now();
+    let mut progress = Progress::shown_if(wanted.progress, wanted.calls);
+    let mut tally = Tally::default();
     let mut failed = 0;
-    for subject in &wanted.subjects {
-        let began = Instant::now();
-        match search(subject, wanted.seed, wanted.calls, &first, &second) {
-            Ok(seen) => print_agreement(subject, &seen, began),
+    for (place, subject) in wanted.subjects.iter().enumerate() {
+        let search = Search {
+            subject,
+            seed: wanted.seed,
+            calls: wanted.share(place),
+        };
+        let (subject_began, before) = (Instant::now(), tally.answers());
+        let found = search.run(&first, &second, |answered| {
+            progress.tell(subject.name, before + answered);
+        });
+        match found {
+            Ok(seen) => {
+                print_agreement(&search, &seen, subject_began.elapsed());
+                tally.add(&seen.tally);
+            }
             Err(difference) => {
                 failed += 1;
-                print_difference(subject, wanted, &difference);
+                print_difference(&search, &difference);
             }
         }
     }
-    println!("{} passed, {failed} failed", wanted.subjects.len() - failed);
-    ExitCode::from(u8::from(failed > 0))
-}
-
-fn print_agreement(subject: &Subject, seen: &Agreement, began: Instant) {
-    let kinds: Vec<String> = seen
-        .kinds
-        .iter()
-        .map(|(kind, amount)| format!("{amount} {kind}"))
-        .collect();
+    print!("agree: answers by call:\n{tally}");
+    for told in tally.misplaced() {
+        println!("agree: an answer that docs/ASK.md does not have: {told}");
+    }
+    failed += usize::from(!tally.misplaced().is_empty());
     println!(
-        "agree: {}: {} scripts, {} answers, all equal ({}) in {:.1} s",
-        subject.name,
-        seen.scripts,
-        seen.answers,
-        kinds.join(", "),
+        "agree: {} calls answered, {} of them by the library, in {:.1} s",
+        tally.answers(),
+        tally.answers_of_library(),
         began.elapsed().as_secs_f64()
     );
+    println!(
+        "{} passed, {failed} failed",
+        subjects.saturating_sub(failed)
+    );
+    failed == 0
 }
 
-fn print_difference(subject: &Subject, wanted: &Wanted, difference: &Difference) {
-    println!("agree: {}: DIFFERENT. {}", subject.name, difference.told);
+fn print_agreement(search: &Search, seen: &Agreement, took: Duration) {
     println!(
-        "agree: again: agree --seed {} --calls {} --subject {}",
-        wanted.seed, wanted.calls, subject.name
+        "agree: {}: {} scripts, {} calls, all answers equal, {:.1} s",
+        search.subject.name,
+        seen.scripts,
+        seen.tally.answers(),
+        took.as_secs_f64()
+    );
+}
+
+fn print_difference(search: &Search, difference: &Difference) {
+    let name = search.subject.name;
+    println!("agree: {name}: DIFFERENT. {}", difference.told);
+    println!(
+        "agree: again: agree --seed {} --calls {} --subject {name}",
+        search.seed, search.calls
     );
     println!(
-        "agree: the script, shrunk to {} lines:",
+        "agree: a script of {} lines shows it:",
         difference.script.len()
     );
-    for line in &difference.script {
-        println!("    {}", shown(line));
-    }
-    let file = built_folder().join("agree-difference.ask");
-    match fs::write(&file, difference.script.concat()) {
-        Ok(()) => println!("agree: the script is in {}", file.display()),
-        Err(error) => println!("agree: {} cannot be written: {error}", file.display()),
-    }
-}
-
-#[cfg(test)]
-mod tests {
-    use super::*;
-
-    fn wanted_by(line: &str) -> Result<Wanted, String> {
-        let words: Vec<String> = line.split_whitespace().map(String::from).collect();
-        wanted(&words)
-    }
-
-    #[test]
-    fn the_words_are_read() {
-        let wanted = wanted_by("--seed 7 --subject buffers --calls 20").unwrap();
-        assert_eq!((wanted.seed, wanted.calls), (7, 20));
-        let names: Vec<&str> = wanted.subjects.iter().map(|subject| subject.name).collect();
-        assert_eq!(names, ["buffers"]);
-    }
-
-    #[test]
-    fn where_no_subject_is_named_all_are_tried() {
-        assert_eq!(wanted_by("").unwrap().subjects.len(), SUBJECTS.len());
-    }
-
-    #[test]
-    fn wrong_words_are_told() {
-        for line in [
-            "--seed",
-            "--seed x",
-            "--calls -1",
-            "--subject none",
-            "--fast 1",
-            "7",
-        ] {
-            assert!(wanted_by(line).is_err(), "{line}");
+    print!("{}", difference.text());
+    match difference.save(&built_folder(), "agree-difference") {
+        Ok(files) => {
+            let files = files.iter().map(|file| file.display().to_string());
+            let files: Vec<String> = files.collect();
+            println!(
+                "agree: it is in {}. To keep it as a case, copy the script to host/cases/NAME.ask and the right answers to \
+                 NAME.answers.",
+                files.join(", ")
+            );
         }
+        Err(error) => println!("agree: it cannot be kept as a file: {error}"),
     }
 }

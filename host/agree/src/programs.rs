@@ -43,6 +43,13 @@ impl Program {
         Program::of_words("second", built("second"))
     }
 
+    /// A program that takes the second one's place: a file for x86-64 that answers as the second program does.
+    pub fn in_place_of_second(path: &Path) -> Program {
+        let mut words = runner();
+        words.push(path.as_os_str().to_os_string());
+        Program::of_words("second", words)
+    }
+
     /// Any program, by the words that start it.
     pub fn of_words(name: &str, words: Vec<OsString>) -> Program {
         let name = name.to_string();

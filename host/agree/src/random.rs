@@ -40,6 +40,13 @@ impl Random {
         values[self.below(values.len() as u64) as usize]
     }
 
+    /// Puts the values in any order.
+    pub fn shuffle<T>(&mut self, values: &mut [T]) {
+        for at in (1..values.len()).rev() {
+            values.swap(at, self.below(at as u64 + 1) as usize);
+        }
+    }
+
     /// Any bytes, `length` of them.
     pub fn bytes(&mut self, length: usize) -> Vec<u8> {
         (0..length).map(|_| self.number() as u8).collect()
@@ -58,6 +65,18 @@ mod tests {
             numbers,
             [6_457_827_717_110_365_317, 3_203_168_211_198_807_973]
         );
+    }
+
+    #[test]
+    fn every_order_comes() {
+        let mut random = Random::from_seed(1);
+        let mut seen = std::collections::BTreeSet::new();
+        for _ in 0..200 {
+            let mut values = [1, 2, 3];
+            random.shuffle(&mut values);
+            seen.insert(values);
+        }
+        assert_eq!(seen.len(), 6);
     }
 
     #[test]

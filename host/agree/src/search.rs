@@ -1,71 +1,105 @@
 //! The search for a difference: random scripts of a subject, each given to both programs.
 
+use crate::answers::Tally;
 use crate::cases;
-use crate::compare::set_side_by_side;
+use crate::compare::{calls_of, set_side_by_side, SideBySide};
+use crate::difference::Difference;
 use crate::programs::Program;
 use crate::random::Random;
 use crate::shrink::shrunk;
 use crate::subjects::{Script, Subject};
-use std::collections::BTreeMap;
+use std::thread;
 
-/// How many calls a script has. A short one is shrunk sooner, a long one starts fewer programs.
-const CALLS_A_SCRIPT: u64 = 1000;
+/// How many calls a script has: a short one is shrunk sooner, a long one starts fewer programs.
+const CALLS_A_SCRIPT: u64 = 4000;
 
 /// What a search without a difference saw.
 #[derive(Debug, Default, PartialEq, Eq)]
 pub struct Agreement {
     pub scripts: u64,
-    pub answers: u64,
-    /// How many answers began with each word.
-    pub kinds: BTreeMap<String, u64>,
+    pub tally: Tally,
 }
 
-/// A difference, and the script that shows it.
-#[derive(Debug, PartialEq, Eq)]
-pub struct Difference {
-    pub told: String,
-    pub script: Script,
+/// What is searched: a subject, the seed, and how many calls at least.
+pub struct Search<'a> {
+    pub subject: &'a Subject,
+    pub seed: u64,
+    pub calls: u64,
 }
 
-/// Sets the programs side by side on random scripts of a subject, with `calls` calls in all.
-pub fn search(
-    subject: &Subject,
-    seed: u64,
-    calls: u64,
-    first: &Program,
-    second: &Program,
-) -> Result<Agreement, Difference> {
-    let mut seen = Agreement::default();
-    // Each subject and each script has numbers of its own, so that one more of either changes no other.
-    let mut seeds = Random::from_seed(seed ^ tag_of(subject.name));
-    let mut left = calls;
-    while left > 0 {
-        let amount = left.min(CALLS_A_SCRIPT);
-        left -= amount;
-        let script = (subject.script)(&mut Random::from_seed(seeds.number()), amount);
-        let (answers, parted) = side_by_side(first, second, &script);
-        if parted.is_some() {
-            let script = shrunk(script, |lines| {
-                side_by_side(first, second, lines).1.is_some()
+impl Search<'_> {
+    /// Sets two programs side by side until a difference is found, or until there were calls enough. After each script
+    /// `watch` is told how many calls were answered so far.
+    pub fn run(
+        &self,
+        first: &Program,
+        second: &Program,
+        mut watch: impl FnMut(u64),
+    ) -> Result<Agreement, Difference> {
+        let mut seen = Agreement::default();
+        let mut scripts = self.scripts();
+        let mut next = scripts.next();
+        while let Some(script) = next {
+            // Making a script takes about as long as answering it, so the next one is made meanwhile.
+            let (following, side) = thread::scope(|beside| {
+                let following = beside.spawn(|| scripts.next());
+                let side = side_by_side(first, second, &script);
+                (following.join().expect("a script can be made"), side)
             });
-            let told = side_by_side(first, second, &script).1;
-            let told = told.unwrap_or_else(|| "it is not seen each time".into());
-            return Err(Difference { told, script });
+            if side.parted.is_some() {
+                return Err(smallest(first, second, script, &side));
+            }
+            seen.scripts += 1;
+            let [answers, _] = &side.answers;
+            for ((_, call), answer) in calls_of(&script.concat()).zip(answers) {
+                seen.tally.count(call, answer);
+            }
+            watch(seen.tally.answers());
+            next = following;
         }
-        seen.scripts += 1;
-        seen.answers += answers.len() as u64;
-        for answer in answers {
-            *seen.kinds.entry(kind_of(&answer)).or_default() += 1;
-        }
+        Ok(seen)
     }
-    Ok(seen)
+
+    /// The scripts, each made when it is asked for. The calls are in all as many as wanted, or a few more.
+    fn scripts(&self) -> impl Iterator<Item = Script> + Send + '_ {
+        // Each subject and each script has numbers of its own, so that one more of either changes no other.
+        let mut seeds = Random::from_seed(self.seed ^ tag_of(self.subject.name));
+        let mut left = self.calls;
+        std::iter::from_fn(move || {
+            if left == 0 {
+                return None;
+            }
+            let amount = left.min(CALLS_A_SCRIPT);
+            let script = (self.subject.script)(&mut Random::from_seed(seeds.number()), amount);
+            left = left.saturating_sub(calls_of(&script.concat()).count() as u64);
+            Some(script)
+        })
+    }
 }
 
-fn side_by_side(
-    first: &Program,
-    second: &Program,
-    script: &[Vec<u8>],
-) -> (Vec<Vec<u8>>, Option<String>) {
+/// The smallest script found that shows the difference of a larger one.
+fn smallest(first: &Program, second: &Program, script: Script, side: &SideBySide) -> Difference {
+    let differs = |lines: &[Vec<u8>]| side_by_side(first, second, lines).parted.is_some();
+    let enough = side.lines_to_part(&script.concat());
+    let enough = &script[..enough.unwrap_or(script.len())];
+    let script = match differs(enough) {
+        true => enough.to_vec(),
+        // It is the status that differs, or what was said in the end.
+        false => script,
+    };
+    let script = shrunk(script, differs);
+    let side = side_by_side(first, second, &script);
+    Difference {
+        told: side
+            .parted
+            .unwrap_or_else(|| "it is not seen each time".into()),
+        names: [first.name.clone(), second.name.clone()],
+        script,
+        answers: side.answers,
+    }
+}
+
+fn side_by_side(first: &Program, second: &Program, script: &[Vec<u8>]) -> SideBySide {
     set_side_by_side(first, second, &script.concat(), &cases::folder())
 }
 
@@ -78,32 +112,26 @@ fn tag_of(name: &str) -> u64 {
     mixed.number()
 }
 
-/// What the statistics count an answer as: its first word, and of a bad line and a refusal the second as well.
-fn kind_of(answer: &[u8]) -> String {
-    let text = String::from_utf8_lossy(answer);
-    let words: Vec<&str> = text.split(' ').collect();
-    match words.as_slice() {
-        [first @ ("bad" | "refused"), second, ..] => format!("{first} {second}"),
-        [first, ..] => first.to_string(),
-        [] => String::new(),
-    }
-}
-
 #[cfg(test)]
 mod tests {
     use super::*;
+    use crate::subjects::SUBJECTS;
 
     #[test]
-    fn answers_are_counted_by_what_they_tell() {
-        let kinds = [
-            ("ok length=3", "ok"),
-            ("yes", "yes"),
-            ("bad line", "bad line"),
-            ("refused 8 tested=3", "refused 8"),
-            ("refused 15", "refused 15"),
-        ];
-        for (answer, kind) in kinds {
-            assert_eq!(kind_of(answer.as_bytes()), kind);
+    fn there_are_as_many_calls_as_wanted() {
+        for subject in SUBJECTS {
+            let (seed, calls) = (9, CALLS_A_SCRIPT + 1);
+            let search = Search {
+                subject,
+                seed,
+                calls,
+            };
+            let amounts: Vec<usize> = search
+                .scripts()
+                .map(|script| calls_of(&script.concat()).count())
+                .collect();
+            let all = amounts.iter().sum::<usize>() as u64;
+            assert!((calls..calls + 400).contains(&all), "{}", subject.name);
         }
     }
 }

@@ -281,8 +281,8 @@ fn images_without_a_table_are_refused_alike() {
         }
         script += &format!("guid-extend i {} 00\ndigest i\n", KNOWN[0]);
         let (tool, second) = (Program::tool(), Program::second());
-        let (answers, parted) =
-            set_side_by_side(&tool, &second, script.as_bytes(), &built_folder());
+        let side = set_side_by_side(&tool, &second, script.as_bytes(), &built_folder());
+        let ([answers, _], parted) = (side.answers, side.parted);
         assert_eq!(parted, None, "on {}", path.display());
         let answers: Vec<_> = answers
             .iter()
@@ -308,8 +308,8 @@ fn no_image_is_a_flash_image_of_this_paper() {
             path.display()
         );
         let (tool, second) = (Program::tool(), Program::second());
-        let (answers, parted) =
-            set_side_by_side(&tool, &second, script.as_bytes(), &built_folder());
+        let side = set_side_by_side(&tool, &second, script.as_bytes(), &built_folder());
+        let ([answers, _], parted) = (side.answers, side.parted);
         assert_eq!(parted, None, "on {}", path.display());
         assert!(
             answers[1..].iter().all(|answer| answer == b"refused 2"),

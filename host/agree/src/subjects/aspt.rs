@@ -1,5 +1,6 @@
 //! Random ASPT tables, good ones and broken ones, read and written with a digest around.
 
+use super::damage::scatter;
 use super::draft::Draft;
 use super::words::{hex, number};
 use super::{Script, Subject};
@@ -64,9 +65,12 @@ fn read(random: &mut Random, draft: &mut Draft, length: u64) {
         table.break_one(random);
     }
     let mut bytes = table.bytes();
-    if random.once_in(8) {
-        let place = random.below(112) as usize;
-        bytes[place] ^= 1 << random.below(8);
+    if random.once_in(4) {
+        scatter(random, &mut bytes);
+        if !random.once_in(4) {
+            // With the right sum, what is checked behind it comes to be seen.
+            balance(&mut bytes, 0);
+        }
     }
     bytes.truncate(length as usize);
     draft.line(format!("patch a 0 {}", hex(random, &bytes)));
@@ -243,16 +247,21 @@ impl Table {
         bytes.extend(self.pages.to_le_bytes());
         bytes.extend(self.count.to_le_bytes());
         bytes.extend(self.structures.iter().flat_map(Structure::bytes));
-        let sum = bytes.iter().fold(0u8, |sum, byte| sum.wrapping_add(*byte));
-        bytes[9] = 0u8.wrapping_sub(sum).wrapping_add(self.wrong);
+        balance(&mut bytes, self.wrong);
         bytes
     }
+}
+
+/// Sets the checksum so that all bytes add up to 0, or to what is added to it.
+fn balance(bytes: &mut [u8], wrong: u8) {
+    bytes[9] = 0;
+    let sum = bytes.iter().fold(0u8, |sum, byte| sum.wrapping_add(*byte));
+    bytes[9] = 0u8.wrapping_sub(sum).wrapping_add(wrong);
 }
 
 #[cfg(test)]
 mod tests {
     use super::*;
-    use crate::subjects::draft::asks;
 
     #[test]
     fn a_table_has_112_bytes_that_add_up_to_0() {
@@ -274,14 +283,5 @@ mod tests {
             good != bad
         };
         assert!((0..100).filter(|seed| differs(*seed)).count() > 80);
-    }
-
-    #[test]
-    fn every_call_of_the_subject_comes() {
-        let script = script(&mut Random::from_seed(5), 500);
-        let calls = ["aspt-read", "aspt-write"];
-        for name in calls {
-            assert!(asks(&script, name), "{name}");
-        }
     }
 }

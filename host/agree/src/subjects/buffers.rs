@@ -102,17 +102,3 @@ fn set(lengths: &mut Lengths, name: &'static str, length: Option<u64>) {
         lengths.insert(name, length);
     }
 }
-
-#[cfg(test)]
-mod tests {
-    use super::*;
-
-    #[test]
-    fn every_call_of_the_subject_comes() {
-        let text = script(&mut Random::from_seed(5), 500).concat();
-        let text = String::from_utf8(text).unwrap();
-        for name in ["buffer", "file", "copy", "patch", "show", "digest"] {
-            assert!(text.lines().any(|line| line.starts_with(name)), "{name}");
-        }
-    }
-}

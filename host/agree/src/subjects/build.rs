@@ -1,6 +1,7 @@
 //! Random calls that write directories, with a digest around each: what is refused must change nothing.
 
-use super::directory::{Directory, Entry, CLASSES, SUBPROGRAMS};
+use super::damage::scatter;
+use super::directory::{repair, Directory, Entry, CLASSES, SUBPROGRAMS};
 use super::draft::Draft;
 use super::words::{hex, number};
 use super::{Script, Subject};
@@ -20,7 +21,11 @@ fn script(random: &mut Random, calls: u64) -> Script {
         prepare(random, &mut draft);
         for _ in 0..2 + random.below(10) {
             draft.line("digest a");
-            let call = extend(random);
+            let call = match random.once_in(12) {
+                // Over what is there, which may be a directory.
+                true => format!("start a {}", level(random)),
+                false => extend(random),
+            };
             draft.ask(random, call);
         }
         draft.line("digest a");
@@ -45,6 +50,7 @@ fn prepare(random: &mut Random, draft: &mut Draft) {
     draft.line(format!("buffer a {} {filled}", number(random, room)));
     if random.once_in(2) {
         let call = format!("start a {}", level(random));
+        draft.line("digest a");
         return draft.ask(random, call);
     }
     let mut directory = directory(random, entries);
@@ -52,9 +58,11 @@ fn prepare(random: &mut Random, draft: &mut Draft) {
         directory.break_one(random);
     }
     let mut bytes = directory.bytes();
-    if random.once_in(16) {
-        let place = random.below(bytes.len() as u64) as usize;
-        bytes[place] = random.number() as u8;
+    if random.once_in(8) {
+        scatter(random, &mut bytes);
+        if random.once_in(2) {
+            repair(&mut bytes);
+        }
     }
     // Where the buffer is too short, so is what lies in it.
     bytes.truncate(room as usize);
@@ -112,19 +120,4 @@ fn extend(random: &mut Random) -> String {
     ];
     let words = values.map(|value| number(random, value));
     format!("extend a {}", words.join(" "))
-}
-
-#[cfg(test)]
-mod tests {
-    use super::*;
-    use crate::subjects::draft::asks;
-
-    #[test]
-    fn every_call_of_the_subject_comes() {
-        let script = script(&mut Random::from_seed(5), 500);
-        let calls = ["start", "extend"];
-        for name in calls {
-            assert!(asks(&script, name), "{name}");
-        }
-    }
 }

@@ -117,6 +117,17 @@ impl Directory {
     }
 }
 
+/// Gives the bytes of a directory the checksum that their total asks for, if it has a sense.
+pub fn repair(bytes: &mut [u8]) {
+    if bytes.len() < 16 {
+        return;
+    }
+    let total = u32::from_le_bytes([bytes[8], bytes[9], bytes[10], bytes[11]]);
+    let end = 16 + 16 * total.min(1024) as usize;
+    let sum = checksum(&bytes[8..end.min(bytes.len())]);
+    bytes[4..8].copy_from_slice(&sum.to_le_bytes());
+}
+
 /// The cookie of a level.
 pub fn cookie(level: u32) -> [u8; 4] {
     match level {
@@ -167,6 +178,17 @@ mod tests {
         assert_eq!(sum(&one), 0x8614_5102u32.to_le_bytes());
         assert_eq!(one.bytes()[..4], *b"$PL2");
         assert_eq!(one.bytes().len(), 32);
+    }
+
+    #[test]
+    fn a_repaired_directory_has_the_right_checksum() {
+        let mut directory = Directory::of(1, vec![entry(), entry()]);
+        let good = directory.bytes();
+        directory.wrong = 0x8000_0001;
+        let mut bytes = directory.bytes();
+        assert_ne!(bytes, good);
+        repair(&mut bytes);
+        assert_eq!(bytes, good);
     }
 
     #[test]

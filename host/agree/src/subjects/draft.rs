@@ -40,15 +40,6 @@ impl Draft {
     }
 }
 
-/// Whether a script has a line that begins with the name of a call.
-#[cfg(test)]
-pub fn asks(script: &[Vec<u8>], name: &str) -> bool {
-    let first = |line: &[u8]| {
-        line.split(|byte| matches!(byte, b' ' | b'\n')).next() == Some(name.as_bytes())
-    };
-    script.iter().any(|line| first(line))
-}
-
 #[cfg(test)]
 mod tests {
     use super::*;

@@ -14,15 +14,20 @@ pub const SUBJECT: Subject = Subject {
 fn script(random: &mut Random, calls: u64) -> Script {
     let mut draft = Draft::default();
     while draft.len() < calls {
-        let image = Image::random(random);
+        let mut image = Image::random(random);
         let name = random.pick(&["a", "Board_2"]);
         image.write(random, &mut draft, name);
-        for level in [1, 2] {
-            draft.line(format!("directory {name} {level}"));
-        }
-        for _ in 0..6 + random.below(14) {
-            let call = call(random, &image, name);
-            draft.ask(random, call);
+        for round in 0..image.rounds(random) {
+            if round > 0 {
+                image.change(random, &mut draft, name);
+            }
+            for level in [1, 2] {
+                draft.line(format!("directory {name} {level}"));
+            }
+            for _ in 0..8 + random.below(16) {
+                let call = call(random, &image, name);
+                draft.ask(random, call);
+            }
         }
     }
     draft.script()
@@ -61,19 +66,4 @@ fn sought(random: &mut Random, image: &Image) -> String {
     let (class, subprogram) = image.sought(random);
     let class = number(random, u64::from(class));
     format!("{class} {}", number(random, u64::from(subprogram)))
-}
-
-#[cfg(test)]
-mod tests {
-    use super::*;
-    use crate::subjects::draft::asks;
-
-    #[test]
-    fn every_call_of_the_subject_comes() {
-        let script = script(&mut Random::from_seed(5), 500);
-        let calls = ["directory", "entry", "bytes", "find", "find-image"];
-        for name in calls {
-            assert!(asks(&script, name), "{name}");
-        }
-    }
 }

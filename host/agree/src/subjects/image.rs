@@ -1,6 +1,7 @@
 //! Random flash images: an EFS, level one, some directories of level two, and what breaks them.
 
-use super::directory::{Directory, Entry, CLASSES, LEAD, SUBPROGRAMS};
+use super::damage::scatter;
+use super::directory::{repair, Directory, Entry, CLASSES, LEAD, SUBPROGRAMS};
 use super::draft::Draft;
 use super::words::{hex, number};
 use crate::random::Random;
@@ -15,11 +16,27 @@ const EFS_BYTES: u64 = 0x24;
 const MOST_BYTES: u64 = 16_777_216;
 const WINDOW: u64 = 0xFF00_0000;
 
+/// An image with more bytes than this takes long to make.
+const LARGE: u64 = 0x10_0000;
+
+/// Bytes of an image, and where they lie.
+#[derive(Clone)]
+struct Part {
+    place: u64,
+    bytes: Vec<u8>,
+    /// Whether they are a directory, which has a checksum.
+    is_directory: bool,
+}
+
 /// An image, zero but for its parts.
 pub struct Image {
     pub length: u64,
-    /// Bytes and where they lie; a later part is written over an earlier one.
-    parts: Vec<(u64, Vec<u8>)>,
+    /// Where its own EFS lies, if it has one.
+    efs: Option<u64>,
+    /// A later part is written over an earlier one.
+    parts: Vec<Part>,
+    /// The part that was broken after the image was written.
+    broken: Option<usize>,
     /// The directories and where they begin, the level one first.
     pub directories: Vec<(u64, Directory)>,
 }
@@ -27,16 +44,24 @@ pub struct Image {
 impl Image {
     /// Any image: mostly a good one, or one with one or two things broken.
     pub fn random(random: &mut Random) -> Image {
-        if random.once_in(24) {
+        if random.once_in(16) {
             return Image::without_efs(random);
         }
-        let efs = match random.below(6) {
+        let efs = match random.below(20) {
             0 => random.one_of(&CANDIDATES),
             _ => CANDIDATES[5],
         };
+        let length = length_for(random, efs);
+        Image::with_efs(random, efs, length)
+    }
+
+    /// An image of a length with an EFS at a place.
+    fn with_efs(random: &mut Random, efs: u64, length: u64) -> Image {
         let mut image = Image {
-            length: length_for(random, efs),
+            length,
+            efs: Some(efs),
             parts: Vec::new(),
+            broken: None,
             directories: Vec::new(),
         };
         image.add_directories(random);
@@ -45,11 +70,21 @@ impl Image {
             image.directories[at].1.break_one(random);
         }
         image.add_efs(random, efs);
+        if image.directories.len() > 1 && random.once_in(3) {
+            image.misplace_lead(random);
+        }
         for (place, directory) in &image.directories {
-            image.parts.push((*place, directory.bytes()));
+            image.parts.push(Part {
+                place: *place,
+                bytes: directory.bytes(),
+                is_directory: true,
+            });
         }
         if random.once_in(12) {
-            image.break_bytes(random);
+            for _ in 0..1 + random.below(3) {
+                let at = random.below(image.parts.len() as u64) as usize;
+                image.parts[at].break_bytes(random);
+            }
         }
         image
     }
@@ -57,12 +92,17 @@ impl Image {
     /// An image of a length on the edge of some rule, with no EFS, or half of one.
     fn without_efs(random: &mut Random) -> Image {
         let least = CANDIDATES[5] + EFS_BYTES;
-        let lengths = [0, 1, 0x24, 0x2_0000, least - 1, least, least + 1];
+        let lengths = [0, 0, 0, 0, 1, 0x24, 0x2_0000, least - 1, least, least + 1];
         let length = random.one_of(&lengths);
         let signature = random.one_of(&[[0xAA, 0x55, 0xAA, 0x55], [0x55, 0xAA, 0x55, 0xAA]]);
         Image {
             length,
-            parts: vec![(CANDIDATES[5], signature.to_vec()), (0, random.bytes(64))],
+            efs: None,
+            parts: vec![
+                plain_part(CANDIDATES[5], signature.to_vec()),
+                plain_part(0, random.bytes(64)),
+            ],
+            broken: None,
             directories: vec![(0, Directory::of(1, Vec::new()))],
         }
     }
@@ -94,7 +134,7 @@ impl Image {
     /// A place for a directory: anywhere in the image's first bytes, at its end, or just beyond.
     fn place_for(&self, random: &mut Random, entries: u64) -> u64 {
         let end = self.length.saturating_sub(16 + 16 * entries);
-        match random.below(24) {
+        match random.below(40) {
             0 => 0,
             1 => end,
             2 => end + 1,
@@ -141,36 +181,72 @@ impl Image {
         for _ in 0..others {
             let other = random.one_of(&CANDIDATES);
             let to = random.below(self.length);
-            self.parts.push((other, efs_bytes(random, to)));
+            self.parts.push(plain_part(other, efs_bytes(random, to)));
         }
         let mut bytes = efs_bytes(random, root);
         if random.once_in(40) {
             bytes[random.below(4) as usize] ^= 1 << random.below(8);
         }
-        self.parts.push((efs, bytes));
+        self.parts.push(plain_part(efs, bytes));
     }
 
-    /// Changes some bytes, in the EFS or in a directory.
-    fn break_bytes(&mut self, random: &mut Random) {
-        for _ in 0..1 + random.below(4) {
-            let at = random.below(self.parts.len() as u64) as usize;
-            let bytes = &mut self.parts[at].1;
-            let place = random.below(bytes.len() as u64) as usize;
-            bytes[place] = random.number() as u8;
+    /// Puts an entry of type 0x40 into a level two that there is.
+    fn misplace_lead(&mut self, random: &mut Random) {
+        let below = random.below(self.directories.len() as u64 - 1) as usize;
+        let entries = &mut self.directories[1 + below].1.entries;
+        if !entries.is_empty() {
+            let at = random.below(entries.len() as u64) as usize;
+            entries[at].class = LEAD;
         }
+    }
+
+    /// How many times calls are asked of the image, which is changed between. A large one takes long to make, and so is
+    /// used for longer.
+    pub fn rounds(&self, random: &mut Random) -> u64 {
+        match self.length {
+            0 => 1,
+            length if length > LARGE && length <= MOST_BYTES => 14,
+            _ => 1 + random.below(2),
+        }
+    }
+
+    /// The lines that change an image which was written before: another takes its place, or some of its bytes break.
+    pub fn change(&mut self, random: &mut Random, draft: &mut Draft, name: &str) {
+        match self.efs {
+            Some(efs) if random.once_in(3) => {
+                for part in &mut self.parts {
+                    part.bytes.fill(0);
+                    part.write(random, draft, name, self.length);
+                }
+                *self = Image::with_efs(random, efs, self.length);
+                self.write_parts(random, draft, name);
+            }
+            _ => self.break_anew(random, draft, name),
+        }
+    }
+
+    /// The lines that break bytes of a part; the part that was broken last is mended.
+    fn break_anew(&mut self, random: &mut Random, draft: &mut Draft, name: &str) {
+        if let Some(last) = self.broken {
+            self.parts[last].write(random, draft, name, self.length);
+        }
+        let at = random.below(self.parts.len() as u64) as usize;
+        let mut part = self.parts[at].clone();
+        part.break_bytes(random);
+        part.write(random, draft, name, self.length);
+        self.broken = Some(at);
     }
 
     /// The lines that make the image.
     pub fn write(&self, random: &mut Random, draft: &mut Draft, name: &str) {
         let length = number(random, self.length);
         draft.line(format!("buffer {name} {length}"));
-        for (place, bytes) in &self.parts {
-            let room = self.length.saturating_sub(*place);
-            let bytes = &bytes[..bytes.len().min(room as usize)];
-            if !bytes.is_empty() {
-                let place = number(random, *place);
-                draft.line(format!("patch {name} {place} {}", hex(random, bytes)));
-            }
+        self.write_parts(random, draft, name);
+    }
+
+    fn write_parts(&self, random: &mut Random, draft: &mut Draft, name: &str) {
+        for part in &self.parts {
+            part.write(random, draft, name, self.length);
         }
     }
 
@@ -200,14 +276,42 @@ impl Image {
     }
 }
 
+impl Part {
+    /// Changes some of the bytes. A directory's checksum is mostly made right again.
+    fn break_bytes(&mut self, random: &mut Random) {
+        scatter(random, &mut self.bytes);
+        if self.is_directory && !random.once_in(4) {
+            repair(&mut self.bytes);
+        }
+    }
+
+    /// The line that writes what of it lies in an image, if anything does.
+    fn write(&self, random: &mut Random, draft: &mut Draft, name: &str, length: u64) {
+        let room = length.saturating_sub(self.place);
+        let bytes = &self.bytes[..self.bytes.len().min(room as usize)];
+        if !bytes.is_empty() {
+            let place = number(random, self.place);
+            draft.line(format!("patch {name} {place} {}", hex(random, bytes)));
+        }
+    }
+}
+
+fn plain_part(place: u64, bytes: Vec<u8>) -> Part {
+    Part {
+        place,
+        bytes,
+        is_directory: false,
+    }
+}
+
 /// The length of an image with an EFS at a place: just enough for it, a little more or less, or on the edge of what is allowed.
 fn length_for(random: &mut Random, efs: u64) -> u64 {
     let least = efs + EFS_BYTES;
-    match random.below(60) {
-        0 => least - 1,
-        1 => MOST_BYTES,
-        2 => MOST_BYTES + 1,
-        3..=12 => least,
+    match random.below(120) {
+        0 | 1 => least - 1,
+        2 => MOST_BYTES,
+        3 => MOST_BYTES + 1,
+        4..=23 => least,
         _ => least + random.below(0x4000),
     }
 }
@@ -224,7 +328,7 @@ fn amount_of_entries(random: &mut Random) -> u64 {
 
 /// An entry of level one that leads to a place.
 fn lead_entry(random: &mut Random, directory: u64, to: u64) -> Entry {
-    let astray = random.once_in(8);
+    let astray = random.once_in(4);
     Entry {
         class: LEAD,
         subprogram: random.one_of(&SUBPROGRAMS),

@@ -102,11 +102,16 @@ pub fn broken(random: &mut Random, call: &str) -> Vec<u8> {
 /// Changes one word: leaves it out, says it twice, puts another in its place.
 fn break_words(random: &mut Random, words: &mut Vec<Vec<u8>>) {
     let place = random.below(words.len() as u64) as usize;
-    match random.below(5) {
+    match random.below(6) {
         0 => drop(words.remove(place)),
         1 => words.insert(place, words[place].clone()),
         2 => words.push(random.pick(&STRANGE_WORDS).to_vec()),
         3 => words.clear(),
+        // A word of parts loses one, or has one more.
+        4 if words[place].len() > 1 => {
+            let at = random.below(words[place].len() as u64) as usize;
+            words[place][at] = random.one_of(b":,-x0");
+        }
         _ => words[place] = random.pick(&STRANGE_WORDS).to_vec(),
     }
 }

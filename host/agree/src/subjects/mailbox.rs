@@ -12,7 +12,10 @@ pub const SUBJECT: Subject = Subject {
 
 fn script(random: &mut Random, calls: u64) -> Script {
     let mut draft = Draft::default();
-    while draft.len() < calls {
+    if calls >= 2 * CALLS_FOR_EVERY_ID && random.once_in(2) {
+        use_every_id(random, &mut draft);
+    }
+    while draft.len() + CALLS_TO_EMPTY < calls {
         match random.below(3) {
             0 => draft.ask(random, "mailbox"),
             1 => {
@@ -21,21 +24,94 @@ fn script(random: &mut Random, calls: u64) -> Script {
             }
             _ => {}
         }
-        let in_order = random.once_in(2);
-        for _ in 0..random.one_of(&[2, 6, 20]) {
-            match in_order {
-                true => round(random, &mut draft),
-                false => any_call(random, &mut draft),
-            }
+        let rounds = random.one_of(&[2, 6, 20]);
+        match random.below(5) {
+            0 | 1 => (0..rounds).for_each(|_| round(random, &mut draft)),
+            2 | 3 => (0..rounds).for_each(|_| any_call(random, &mut draft)),
+            _ => all_callers(random, &mut draft),
+        }
+        if random.once_in(6) {
+            empty(&mut draft);
         }
     }
+    empty(&mut draft);
     draft.script()
 }
 
-/// A call, and what the firmware's state is after it.
+/// A call, and mostly what the firmware's state is after it: a turn alone may change it.
 fn ask(random: &mut Random, draft: &mut Draft, call: &str) {
     draft.ask(random, call);
+    if call == "turn" || random.once_in(3) {
+        draft.ask(random, "firmware");
+    }
+}
+
+/// Takes all posts to their ends, so that whatever the mailbox held is seen.
+fn empty(draft: &mut Draft) {
+    for _ in 0..9 {
+        for step in ["load", "turn", "unload"] {
+            draft.line(step);
+        }
+    }
+    for caller in 0..8 {
+        draft.line(format!("take {caller}"));
+    }
     draft.line("firmware");
+}
+
+/// How many calls [`empty`] makes, and how many [`use_every_id`] makes at least.
+const CALLS_TO_EMPTY: u64 = 36;
+const CALLS_FOR_EVERY_ID: u64 = 5 * 64 * 4;
+
+/// Saves a descriptor under each ID and turns most deliveries on, in one mailbox.
+fn use_every_id(random: &mut Random, draft: &mut Draft) {
+    draft.line("mailbox");
+    let mut ids: Vec<u64> = (0..64).collect();
+    random.shuffle(&mut ids);
+    for id in &ids {
+        let mut parts = [0x82, 0x83, 0x84];
+        random.shuffle(&mut parts);
+        for part in parts {
+            let data = id << 10 | random.below(0x400);
+            serve(random, draft, part, data);
+        }
+    }
+    serve(random, draft, 0x80, 0);
+    random.shuffle(&mut ids);
+    for id in &ids {
+        let on = u64::from(!random.once_in(8));
+        serve(random, draft, 0x85, id << 10 | on);
+    }
+    draft.line("firmware");
+}
+
+/// A post of any caller, served at once and taken.
+fn serve(random: &mut Random, draft: &mut Draft, command: u64, data: u64) {
+    let caller = random.below(8);
+    draft.line(format!("post {caller} {command} {data}"));
+    for step in ["load", "turn", "unload"] {
+        draft.line(step);
+    }
+    draft.line(format!("take {caller}"));
+}
+
+/// Every caller posts, one of them twice; then all are served, and take their words in another order.
+fn all_callers(random: &mut Random, draft: &mut Draft) {
+    let mut callers: Vec<u64> = (0..8).collect();
+    random.shuffle(&mut callers);
+    let again = random.below(8);
+    for caller in callers.iter().chain([&again]) {
+        let (command, data) = command(random);
+        draft.line(format!("post {caller} {} {data}", command & 0x3FF));
+    }
+    random.shuffle(&mut callers);
+    for caller in callers {
+        for step in ["load", "turn", "unload"] {
+            ask(random, draft, step);
+        }
+        let call = format!("take {caller}");
+        ask(random, draft, &call);
+    }
 }
 
 /// One call of any kind.
@@ -91,9 +167,10 @@ fn post(random: &mut Random) -> String {
     format!("post {caller} {command} {}", number(random, data))
 }
 
-/// A command and its data. The IDs that they speak of are few, so that they meet.
+/// A command and its data. The IDs that they speak of are mostly few, so that they meet.
 fn command(random: &mut Random) -> (u64, u64) {
-    let id = random.one_of(&[0, 1, 2, 31, 63]) << 10;
+    let any_id = random.below(64);
+    let id = random.one_of(&[0, 1, 2, 31, 63, any_id]) << 10;
     let any = random.below(0x1_0000);
     match random.below(24) {
         0 => (0x80, any),
@@ -166,9 +243,7 @@ struct Callers {
 impl Callers {
     fn random(random: &mut Random) -> Callers {
         let mut left: Vec<u64> = (0..8).collect();
-        for at in (1..8).rev() {
-            left.swap(at, random.below(at as u64 + 1) as usize);
-        }
+        random.shuffle(&mut left);
         Callers { left }
     }
 
@@ -188,29 +263,5 @@ fn listed(random: &mut Random, items: Vec<String>) -> String {
         true => "-".to_string(),
         false if random.once_in(60) => items.join(",") + ",",
         false => items.join(","),
-    }
-}
-
-#[cfg(test)]
-mod tests {
-    use super::*;
-    use crate::subjects::draft::asks;
-
-    #[test]
-    fn every_call_of_the_subject_comes() {
-        let script = script(&mut Random::from_seed(5), 1000);
-        let calls = [
-            "mailbox",
-            "mailbox-of",
-            "post",
-            "load",
-            "turn",
-            "unload",
-            "take",
-            "firmware",
-        ];
-        for name in calls {
-            assert!(asks(&script, name), "{name}");
-        }
     }
 }

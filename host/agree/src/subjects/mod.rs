@@ -5,6 +5,7 @@
 mod aspt;
 mod buffers;
 mod build;
+mod damage;
 mod directory;
 mod draft;
 mod flash;

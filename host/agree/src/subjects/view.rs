@@ -15,11 +15,16 @@ pub const SUBJECT: Subject = Subject {
 fn script(random: &mut Random, calls: u64) -> Script {
     let mut draft = Draft::default();
     while draft.len() < calls {
-        let image = Image::random(random);
+        let mut image = Image::random(random);
         image.write(random, &mut draft, "a");
-        for _ in 0..8 + random.below(16) {
-            let call = call(random, &image);
-            draft.ask(random, call);
+        for round in 0..image.rounds(random) {
+            if round > 0 {
+                image.change(random, &mut draft, "a");
+            }
+            for _ in 0..8 + random.below(16) {
+                let call = call(random, &image);
+                draft.ask(random, call);
+            }
         }
     }
     draft.script()
@@ -49,20 +54,5 @@ fn place(random: &mut Random, image: &Image) -> u64 {
         4 => u64::MAX - random.one_of(&[0, 7, 15, 16]),
         5 => random.below(image.length.max(1)),
         _ => place,
-    }
-}
-
-#[cfg(test)]
-mod tests {
-    use super::*;
-    use crate::subjects::draft::asks;
-
-    #[test]
-    fn every_call_of_the_subject_comes() {
-        let script = script(&mut Random::from_seed(5), 500);
-        let calls = ["view", "view-entry", "view-bytes"];
-        for name in calls {
-            assert!(asks(&script, name), "{name}");
-        }
     }
 }

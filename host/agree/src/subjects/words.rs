@@ -20,13 +20,14 @@ pub fn hex(random: &mut Random, bytes: &[u8]) -> String {
     if bytes.is_empty() {
         return "-".to_string();
     }
-    let upper = random.once_in(4);
+    let digits: &[u8; 16] = match random.once_in(4) {
+        true => b"0123456789ABCDEF",
+        false => b"0123456789abcdef",
+    };
+    let digit = |value: u8| char::from(digits[usize::from(value)]);
     bytes
         .iter()
-        .map(|byte| match upper {
-            true => format!("{byte:02X}"),
-            false => format!("{byte:02x}"),
-        })
+        .flat_map(|byte| [digit(byte >> 4), digit(byte & 15)])
         .collect()
 }
 

@@ -1,0 +1,74 @@
+//! Random calls reach what there is to be reached: every answer of every call, and mailboxes that are full.
+
+use agree::answers::Tally;
+use agree::cases;
+use agree::compare::{answers_of, calls_of};
+use agree::programs::Program;
+use agree::random::Random;
+use agree::search::Search;
+use agree::subjects::SUBJECTS;
+
+/// The numbers follow from this seed, so that what is reached once is always reached.
+const SEED: u64 = 21;
+
+#[test]
+fn fifty_thousand_calls_reach_every_answer_of_every_call() {
+    let mut tally = Tally::default();
+    for subject in SUBJECTS {
+        let search = Search {
+            subject,
+            seed: SEED,
+            calls: 50_000 / SUBJECTS.len() as u64,
+        };
+        let seen = search.run(&Program::tool(), &Program::second(), |_| {});
+        let told = |difference| panic!("{}: {difference:?}", subject.name);
+        tally.add(&seen.unwrap_or_else(told).tally);
+    }
+    assert_eq!(tally.missed(3), NOT_REACHED, "of\n{tally}");
+    assert_eq!(tally.misplaced(), [""; 0], "of\n{tally}");
+}
+
+/// What random calls come to fewer than three times, and why that is no gap: nothing.
+const NOT_REACHED: [&str; 0] = [];
+
+/// How many items a field of the firmware's state has.
+fn items(state: &str, field: &str) -> usize {
+    let start = state.find(field).expect("the state has the field") + field.len();
+    let list = state[start..].split(' ').next().unwrap_or_default();
+    match list {
+        "-" => 0,
+        list => list.split(',').count(),
+    }
+}
+
+#[test]
+fn mailboxes_are_full_and_every_id_is_used() {
+    let subject = SUBJECTS.iter().find(|subject| subject.name == "mailbox");
+    let subject = subject.expect("the mailbox is a subject");
+    let (mut most_posts, mut most_saved, mut most_delivered) = (0, 0, 0);
+    for seed in 0..4 {
+        let script = (subject.script)(&mut Random::from_seed(seed), 4000).concat();
+        let run = Program::tool().answers_to(&script, &cases::folder());
+        // Posts that were accepted and not taken, since the mailbox was set up.
+        let mut posts = 0;
+        for ((_, line), answer) in calls_of(&script).zip(answers_of(&run.answers)) {
+            let (line, answer) = (
+                String::from_utf8_lossy(line),
+                String::from_utf8_lossy(&answer),
+            );
+            match line.split(' ').next() {
+                Some("mailbox" | "mailbox-of") if answer == "ok" => posts = 0,
+                Some("post") if answer == "ok" => posts += 1,
+                Some("take") if answer.starts_with("ok") => posts -= 1,
+                Some("firmware") if answer.starts_with("ok") => {
+                    most_saved = most_saved.max(items(&answer, "saved="));
+                    most_delivered = most_delivered.max(items(&answer, "delivery="));
+                }
+                _ => {}
+            }
+            most_posts = most_posts.max(posts);
+        }
+    }
+    assert_eq!((most_posts, most_saved), (8, 64));
+    assert!(most_delivered > 48, "{most_delivered}");
+}
