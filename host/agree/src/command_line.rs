@@ -7,8 +7,8 @@ use std::time::{SystemTime, UNIX_EPOCH};
 pub const HELP: &str = "\
 agree: random calls, given to the tool and to the second program; two answers that differ are a fault in one.
 
-  agree [--calls N] [--seed S] [--subject NAME]... [--progress] [--second FILE]
-  agree --cases [--second FILE]
+  agree [--calls N] [--seed S] [--subject NAME]... [--progress] [--first] [--second FILE]
+  agree --cases [--first] [--second FILE]
 
   --calls N        how many calls in all, in equal shares for the subjects (160000 where it is not given). A call is a line
                    that is answered, also one that only makes or shows bytes; each subject has a few calls more than its
@@ -16,6 +16,7 @@ agree: random calls, given to the tool and to the second program; two answers th
   --seed S         the number that the calls follow from (one from the clock where it is not given; it is printed)
   --subject NAME   a subject to try, and no other that is not named so (all of them where none is named)
   --progress       tell every few seconds on standard error how far it is (it does so anyway where that is a terminal)
+  --first          end at the first subject or case with a difference
   --second FILE    a program to take the second one's place
   --cases          the recorded cases of host/cases in the place of random calls: what the second program answers is held
                    against what was recorded
@@ -32,6 +33,7 @@ pub struct Wanted {
     pub seed: u64,
     pub subjects: Vec<&'static Subject>,
     pub progress: bool,
+    pub first: bool,
     pub second: Option<PathBuf>,
     pub cases: bool,
 }
@@ -52,6 +54,7 @@ pub fn wanted(words: &[String]) -> Result<Wanted, String> {
         seed: clock.map_or(0, |since| since.as_micros() as u64),
         subjects: Vec::new(),
         progress: false,
+        first: false,
         second: None,
         cases: false,
     };
@@ -64,6 +67,7 @@ pub fn wanted(words: &[String]) -> Result<Wanted, String> {
             "--subject" => wanted.subjects.push(subject(value()?)?),
             "--second" => wanted.second = Some(PathBuf::from(value()?)),
             "--progress" => wanted.progress = true,
+            "--first" => wanted.first = true,
             "--cases" => wanted.cases = true,
             _ => return Err(format!("there is no option {option:?}")),
         }
@@ -101,9 +105,10 @@ mod tests {
         let names: Vec<&str> = wanted.subjects.iter().map(|subject| subject.name).collect();
         assert_eq!(names, ["buffers"]);
         assert!(!wanted.cases);
-        let wanted = wanted_by("--cases --second a/b").unwrap();
+        assert!(!wanted.first);
+        let wanted = wanted_by("--cases --first --second a/b").unwrap();
         assert_eq!(wanted.second, Some(PathBuf::from("a/b")));
-        assert!(wanted.cases && !wanted.progress);
+        assert!(wanted.cases && wanted.first && !wanted.progress);
     }
 
     #[test]
