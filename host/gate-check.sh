@@ -115,4 +115,13 @@ expect 'the file out of layout fails its step' counted 'layout of the Rattle fil
 expect 'the warning fails the host build' counted 'host build' 0 1
 expect 'tests that cannot be built are a failure' counted 'host tests' 0 1
 
+# The second program, from which a text that a change needs was taken away.
+cp -r "$own/mutate.sh" "$own/setup.sh" "$own/second" "$own/mutations" "$root/host/"
+expect 'every change of the second program can be made' "$root/host/mutate.sh" --check
+put host/second/src/guids.rs LARGEST_TOTAL LARGEST
+names_lost_change() {
+    ! printed=$("$root/host/mutate.sh" --check 2>&1) && grep -q 'guids-extend-larger: .* no longer has this text' <<<"$printed"
+}
+expect 'a change that can no longer be made is named' names_lost_change
+
 expected

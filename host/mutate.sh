@@ -47,7 +47,10 @@ read_list() { # FILE
 # Prints the file with the change made, and a dot, so that line ends at its end are kept.
 changed_file() { # PLACE
     local file=$root/host/second/src/${files[$1]} old=${olds[$1]} text before after
-    [ -n "$old" ] && [ -f "$file" ] || { say "${names[$1]}: there is no file $file, or no old text"; return 1; }
+    if [ -z "$old" ] || [ ! -f "$file" ]; then
+        say "${names[$1]}: it has no old text, or there is no file $file"
+        return 1
+    fi
     text=$(cat "$file" && echo .)
     before=${text%%"$old"*}
     if [ "$before" = "$text" ]; then
@@ -78,14 +81,9 @@ make_copy() {
     sed 's/^members = .*/members = ["second"]/' "$root/host/Cargo.toml" >"$copy/host/Cargo.toml"
 }
 
-# Builds what stands in the copy.
+# Builds what stands in the copy. Little is made faster, so that the build is.
 build_mutant() {
-    (
-        # Little is made faster, so that the build is.
-        export CARGO_PROFILE_RELEASE_OPT_LEVEL=1 CARGO_INCREMENTAL=1
-        root=$copy
-        run_cargo build --package second
-    ) >"$copy/build.log" 2>&1
+    CARGO_PROFILE_RELEASE_OPT_LEVEL=1 CARGO_INCREMENTAL=1 root=$copy run_cargo build --package second >"$copy/build.log" 2>&1
 }
 
 # Makes a change, builds, and prints what notices it: a case, random calls, or nobody. Status 1 where it cannot be tried.
