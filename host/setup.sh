@@ -187,17 +187,21 @@ tool_is_current() {
     [ -x "$tool" ] && [ "$(cat "$tool.sources" 2>/dev/null)" = "$(tool_sources)" ]
 }
 
-# Builds what the tool lacks. All that the builders say is kept; of rt's words those on each crate are shown.
+# Proves and builds the library where it is not current. All that rt says is kept in a log; its words on each crate are shown.
+bring_library() { # LOG
+    if library_is_current; then return; fi
+    say "proving and building the library: some minutes the first time, then only what changed"
+    make_library 2>&1 | tee "$1" | grep --line-buffered -E '^rt: .*(proved \([0-9]|NOT PROVED|FAILED)|: there is no rt' >&2
+    [ "${PIPESTATUS[0]}" -eq 0 ] || { say "the library is not proved or not built; all that was said is in $1"; return 1; }
+}
+
+# Builds what the tool lacks. All that the builders say is kept.
 build_tool() {
     local log=$tool_folder/build.log sources
     mkdir -p "$tool_folder"
     sources=$(tool_sources)
     install_missing tool || return
-    if ! library_is_current; then
-        say "proving and building the library: some minutes the first time, then only what changed"
-        make_library 2>&1 | tee "$log" | grep --line-buffered -E '^rt: .*(proved \([0-9]|NOT PROVED|FAILED)|: there is no rt' >&2
-        [ "${PIPESTATUS[0]}" -eq 0 ] || { say "the library is not proved or not built; all that was said is in $log"; return 1; }
-    fi
+    bring_library "$log" || return
     say "building the tool: less than a minute"
     if ! run_cargo build --package tool --target-dir "$tool_folder/cargo" >"$log" 2>&1; then
         cat "$log" >&2

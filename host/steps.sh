@@ -140,3 +140,10 @@ check_agreement() {
     # shellcheck disable=SC2086
     $emulator "$root/host/target/$rust_target/release/agree" --calls "${KPALUMERE_CALLS:-160000}"
 }
+
+# The three programs that the benchmarks compare give the same answers on every row. No time is taken.
+check_benchmarks() {
+    choose_compilers
+    # shellcheck disable=SC2086
+    $emulator "$root/host/target/$rust_target/release/bench" --quick
+}

@@ -1,0 +1,366 @@
+/* Flash images: from the EFS to the directories, their entries and bytes, the two lookups, and the writing of a directory. */
+#include "plain.h"
+
+#include <string.h>
+
+enum {
+    LONGEST_IMAGE = 16777216,
+    WINDOW_BYTES = 16777216,
+    EFS_BYTES = 0x24,
+    HEADER_BYTES = 16,
+    ENTRY_BYTES = 16,
+    MOST_ENTRIES = 512,
+    TYPE_LEVEL_TWO = 0x40,
+    TYPE_VALUE = 0x0B
+};
+
+static const uint64_t window_first = 0xFF000000;
+static const uint64_t window_last = 0xFFFFFFFF;
+static const uint64_t location_mask = (UINT64_C(1) << 62) - 1;
+
+/* 359 words keep both sums below 2^32 where they start below 65,535. */
+enum { WORDS_A_FOLD = 359 };
+
+uint32_t plain_checksum(const uint8_t *bytes, size_t length)
+{
+    size_t words = length / 2;
+    uint32_t sum = 0, weighted = 0;
+
+    while (words > 0) {
+        size_t block = words < WORDS_A_FOLD ? words : WORDS_A_FOLD;
+        const uint8_t *end = bytes + 2 * block;
+
+        for (; bytes < end; bytes += 2) {
+            sum += get16(bytes);
+            weighted += sum;
+        }
+        sum %= 65535;
+        weighted %= 65535;
+        words -= block;
+    }
+    return (weighted ? weighted : 65535) << 16 | (sum ? sum : 65535);
+}
+
+static const char *cookie_of(uint32_t level)
+{
+    return level == 1 ? "$PSP" : "$PL2";
+}
+
+/* The directory of a level at a place that does not lie beyond the bytes. */
+static int check_directory(const uint8_t *bytes, size_t length, uint64_t place, uint32_t level, struct plain_directory *found)
+{
+    const uint8_t *header = bytes + place;
+    size_t left = length - place;
+    uint32_t total;
+
+    if (left < HEADER_BYTES)
+        return PLAIN_SHORT;
+    if (memcmp(header, cookie_of(level), 4) != 0)
+        return PLAIN_SIGNATURE;
+    total = get32(header + 8);
+    if (total > MOST_ENTRIES)
+        return PLAIN_LIMITS;
+    if (left - HEADER_BYTES < (size_t)total * ENTRY_BYTES)
+        return PLAIN_SHORT;
+    if (get32(header + 4) != plain_checksum(header + 8, 8 + (size_t)total * ENTRY_BYTES))
+        return PLAIN_CHECKSUM;
+    if (get32(header + 12) != 0)
+        return PLAIN_FIELD;
+    for (uint32_t i = 0; i < total; i++) {
+        const uint8_t *entry = header + HEADER_BYTES + (size_t)i * ENTRY_BYTES;
+
+        if (get16(entry + 2) != 0)
+            return PLAIN_FIELD;
+        if (level == 2 && entry[0] == TYPE_LEVEL_TWO)
+            return PLAIN_MISPLACED;
+    }
+    found->place = place;
+    found->level = level;
+    found->total = total;
+    return PLAIN_OK;
+}
+
+static struct plain_entry read_entry(const uint8_t *at)
+{
+    uint64_t last = get64(at + 8);
+    struct plain_entry entry = {at[0], at[1], get32(at + 4), last & location_mask, (uint32_t)(last >> 62)};
+
+    return entry;
+}
+
+static const uint8_t *entry_bytes(const uint8_t *image, const struct plain_directory *directory, uint64_t index)
+{
+    return image + directory->place + HEADER_BYTES + index * ENTRY_BYTES;
+}
+
+/* The flash offset of a physical address. */
+static int offset_of(uint64_t address, uint64_t *offset)
+{
+    if (address < window_first || address > window_last)
+        return PLAIN_OUTSIDE;
+    *offset = address - window_first;
+    return PLAIN_OK;
+}
+
+/* Where an entry of the directory at `place` leads. No sum passes 2^64: a location has 62 bits. */
+static int follow(const struct plain_entry *entry, uint64_t place, uint64_t *offset)
+{
+    switch (entry->mode) {
+    case 0:
+        return offset_of(entry->location, offset);
+    case 1:
+        *offset = entry->location;
+        return PLAIN_OK;
+    case 2:
+        *offset = place + entry->location;
+        return PLAIN_OK;
+    default:
+        return PLAIN_MODE;
+    }
+}
+
+/* Where level one begins, as the first EFS tells. */
+static int find_root(const uint8_t *image, size_t length, uint64_t *root)
+{
+    static const uint32_t candidates[] = {0xFA0000, 0xF20000, 0xE20000, 0xC20000, 0x820000, 0x020000};
+    static const uint8_t signature[4] = {0xAA, 0x55, 0xAA, 0x55};
+
+    for (size_t i = 0; i < sizeof candidates / sizeof candidates[0]; i++) {
+        const uint8_t *efs;
+        uint32_t pointer;
+
+        if (length < candidates[i] + EFS_BYTES)
+            continue;
+        efs = image + candidates[i];
+        if (memcmp(efs, signature, sizeof signature) != 0)
+            continue;
+        pointer = get32(efs + 0x14);
+        if (pointer == 0 || pointer == 0xFFFFFFFF)
+            pointer = get32(efs + 0x10);
+        if (pointer == 0 || pointer == 0xFFFFFFFF)
+            return PLAIN_ABSENT;
+        if (pointer >= window_first)
+            *root = pointer - window_first;
+        else if (pointer < WINDOW_BYTES)
+            *root = pointer;
+        else
+            return PLAIN_OUTSIDE;
+        return *root > length ? PLAIN_OUTSIDE : PLAIN_OK;
+    }
+    return PLAIN_SIGNATURE;
+}
+
+static int level_one(const uint8_t *image, size_t length, struct plain_directory *found)
+{
+    uint64_t root;
+    int answer;
+
+    if (length == 0 || length > LONGEST_IMAGE)
+        return PLAIN_IMAGE;
+    answer = find_root(image, length, &root);
+    if (answer != PLAIN_OK)
+        return answer;
+    return check_directory(image, length, root, 1, found);
+}
+
+/* The level two to which an entry of level one leads. */
+static int level_two(const uint8_t *image, size_t length, const struct plain_directory *one, const struct plain_entry *entry,
+                     struct plain_directory *found)
+{
+    uint64_t place;
+    int answer = follow(entry, one->place, &place);
+
+    if (answer != PLAIN_OK)
+        return answer;
+    if (place > length)
+        return PLAIN_OUTSIDE;
+    return check_directory(image, length, place, 2, found);
+}
+
+int plain_directory(const uint8_t *image, size_t length, uint32_t level, struct plain_directory *found)
+{
+    struct plain_directory one;
+    int answer;
+
+    if (level != 1 && level != 2)
+        return PLAIN_RANGE;
+    answer = level_one(image, length, &one);
+    if (answer != PLAIN_OK)
+        return answer;
+    if (level == 1) {
+        *found = one;
+        return PLAIN_OK;
+    }
+    for (uint32_t i = 0; i < one.total; i++) {
+        const uint8_t *at = entry_bytes(image, &one, i);
+
+        if (at[0] == TYPE_LEVEL_TWO) {
+            struct plain_entry entry = read_entry(at);
+
+            return level_two(image, length, &one, &entry, found);
+        }
+    }
+    return PLAIN_ABSENT;
+}
+
+int plain_entry_of(const uint8_t *image, const struct plain_directory *directory, uint64_t index, struct plain_entry *entry)
+{
+    if (index >= directory->total)
+        return PLAIN_ABSENT;
+    *entry = read_entry(entry_bytes(image, directory, index));
+    return PLAIN_OK;
+}
+
+int plain_part_of(const uint8_t *image, size_t length, const struct plain_directory *directory, uint64_t index,
+                  struct plain_part *part)
+{
+    struct plain_entry entry;
+    uint64_t place;
+    int answer = plain_entry_of(image, directory, index, &entry);
+
+    if (answer != PLAIN_OK)
+        return answer;
+    if (entry.type == TYPE_VALUE)
+        return PLAIN_VALUE;
+    answer = follow(&entry, directory->place, &place);
+    if (answer != PLAIN_OK)
+        return answer;
+    if (place > length || entry.size > length - place)
+        return PLAIN_OUTSIDE;
+    part->place = place;
+    part->length = entry.size;
+    return PLAIN_OK;
+}
+
+int plain_entry(const uint8_t *image, size_t length, uint32_t level, uint64_t index, struct plain_entry *entry)
+{
+    struct plain_directory directory;
+    int answer = plain_directory(image, length, level, &directory);
+
+    return answer != PLAIN_OK ? answer : plain_entry_of(image, &directory, index, entry);
+}
+
+int plain_part(const uint8_t *image, size_t length, uint32_t level, uint64_t index, struct plain_part *part)
+{
+    struct plain_directory directory;
+    int answer = plain_directory(image, length, level, &directory);
+
+    return answer != PLAIN_OK ? answer : plain_part_of(image, length, &directory, index, part);
+}
+
+/* The index of the first match in a directory, or its total. */
+static uint32_t first_match(const uint8_t *image, const struct plain_directory *directory, uint8_t type, uint8_t subprogram)
+{
+    uint32_t i;
+
+    for (i = 0; i < directory->total; i++) {
+        const uint8_t *at = entry_bytes(image, directory, i);
+
+        if (at[0] == type && at[1] == subprogram)
+            break;
+    }
+    return i;
+}
+
+int plain_find(const uint8_t *image, size_t length, uint32_t level, uint8_t type, uint8_t subprogram, struct plain_match *match)
+{
+    struct plain_directory directory;
+    int answer = plain_directory(image, length, level, &directory);
+    uint32_t index;
+
+    if (answer != PLAIN_OK) {
+        match->tested = 0;
+        return answer;
+    }
+    index = first_match(image, &directory, type, subprogram);
+    if (index == directory.total) {
+        match->tested = directory.total;
+        return PLAIN_ABSENT;
+    }
+    match->index = index;
+    match->tested = index + 1;
+    return PLAIN_OK;
+}
+
+/* Says where the match is. */
+static int matched(const struct plain_directory *directory, uint32_t index, uint64_t tested, struct plain_image_match *match)
+{
+    match->place = directory->place;
+    match->level = directory->level;
+    match->index = index;
+    match->tested = tested;
+    return PLAIN_OK;
+}
+
+int plain_find_image(const uint8_t *image, size_t length, uint8_t type, uint8_t subprogram, struct plain_image_match *match)
+{
+    struct plain_directory one, two;
+    uint64_t tested = 0;
+    int answer = level_one(image, length, &one);
+
+    match->tested = 0;
+    if (answer != PLAIN_OK)
+        return answer;
+    for (uint32_t i = 0; i < one.total; i++) {
+        const uint8_t *at = entry_bytes(image, &one, i);
+        struct plain_entry entry;
+        uint32_t index;
+
+        tested++;
+        if (at[0] == type && at[1] == subprogram)
+            return matched(&one, i, tested, match);
+        if (at[0] != TYPE_LEVEL_TWO)
+            continue;
+        entry = read_entry(at);
+        answer = level_two(image, length, &one, &entry, &two);
+        if (answer != PLAIN_OK)
+            return answer;
+        index = first_match(image, &two, type, subprogram);
+        if (index < two.total)
+            return matched(&two, index, tested + index + 1, match);
+        tested += two.total;
+    }
+    match->tested = tested;
+    return PLAIN_ABSENT;
+}
+
+int plain_start(uint8_t *buffer, size_t length, uint32_t level)
+{
+    if (level != 1 && level != 2)
+        return PLAIN_RANGE;
+    if (length < HEADER_BYTES)
+        return PLAIN_ROOM;
+    memcpy(buffer, cookie_of(level), 4);
+    memset(buffer + 8, 0, 8);
+    put32(buffer + 4, plain_checksum(buffer + 8, 8));
+    return PLAIN_OK;
+}
+
+int plain_extend(uint8_t *buffer, size_t length, const struct plain_entry *entry, uint32_t *total)
+{
+    struct plain_directory directory;
+    uint32_t level = length >= HEADER_BYTES && memcmp(buffer, cookie_of(2), 4) == 0 ? 2 : 1;
+    int answer = check_directory(buffer, length, 0, level, &directory);
+    uint8_t *at;
+
+    if (answer != PLAIN_OK)
+        return answer;
+    if (entry->location > location_mask || entry->mode > 3)
+        return PLAIN_FIELD;
+    if (level == 2 && entry->type == TYPE_LEVEL_TWO)
+        return PLAIN_MISPLACED;
+    if (directory.total == MOST_ENTRIES)
+        return PLAIN_LIMITS;
+    if (length < HEADER_BYTES + (size_t)(directory.total + 1) * ENTRY_BYTES)
+        return PLAIN_ROOM;
+    at = buffer + HEADER_BYTES + (size_t)directory.total * ENTRY_BYTES;
+    at[0] = entry->type;
+    at[1] = entry->subprogram;
+    put16(at + 2, 0);
+    put32(at + 4, entry->size);
+    put64(at + 8, entry->location | (uint64_t)entry->mode << 62);
+    *total = directory.total + 1;
+    put32(buffer + 8, *total);
+    put32(buffer + 4, plain_checksum(buffer + 8, 8 + (size_t)*total * ENTRY_BYTES));
+    return PLAIN_OK;
+}

@@ -1,0 +1,159 @@
+//! What the programs are given: flash images, ASPT tables and guest firmware images, good ones, and each the same at every run.
+
+use bindings::{AsptStructure, AsptTable, Guid, NewEntry};
+
+/// A type that no sample's entry has.
+pub const MISSING: u8 = 0xEE;
+/// The type that leads to level two, and the one that holds a value.
+pub const LEAD: u8 = 0x40;
+const VALUE: u8 = 0x0B;
+
+/// The last place where an EFS is looked for: the only one in a small image.
+pub const EFS: usize = 0x2_0000;
+/// The shortest image that has an EFS, and the longest image.
+pub const SHORTEST: usize = EFS + 0x24;
+pub const LONGEST: usize = 16_777_216;
+/// Where the directories begin. Either has room for 512 entries.
+pub const LEVEL_ONE: usize = 0x1000;
+pub const LEVEL_TWO: usize = 0x4000;
+
+/// An entry's sixteen bytes.
+pub fn entry_bytes(entry: &NewEntry) -> [u8; 16] {
+    let mut bytes = [0; 16];
+    bytes[0] = entry.class;
+    bytes[1] = entry.subprogram;
+    bytes[4..8].copy_from_slice(&entry.size.to_le_bytes());
+    let last = entry.location | u64::from(entry.mode) << 62;
+    bytes[8..].copy_from_slice(&last.to_le_bytes());
+    bytes
+}
+
+/// A directory's bytes.
+pub fn directory_bytes(cookie: &[u8; 4], entries: &[NewEntry]) -> Vec<u8> {
+    let mut bytes = cookie.to_vec();
+    bytes.extend([0; 4]);
+    bytes.extend((entries.len() as u64).to_le_bytes());
+    bytes.extend(entries.iter().flat_map(entry_bytes));
+    sum_again(&mut bytes);
+    bytes
+}
+
+/// Writes the checksum that a directory's bytes have.
+pub fn sum_again(directory: &mut [u8]) {
+    let sum = second::flash::checksum(&directory[8..]);
+    directory[4..8].copy_from_slice(&sum.to_le_bytes());
+}
+
+/// Entries of many types, modes and sizes, of which none leads to level two and none has the missing type.
+pub fn mixed_entries(amount: usize, variant: usize) -> Vec<NewEntry> {
+    (0..amount)
+        .map(|i| {
+            let mode = (i % 3) as u32;
+            let offset = 0x3_0000 + 0x40 * ((i + variant) % 1024) as u64;
+            NewEntry {
+                class: match i % 16 {
+                    5 => VALUE,
+                    _ => ((7 * i + variant) % 0x40) as u8,
+                },
+                subprogram: (i % 8) as u8,
+                size: (0x10 + 3 * i) as u32,
+                location: match mode {
+                    0 => 0xFF00_0000 + offset,
+                    _ => offset,
+                },
+                mode,
+            }
+        })
+        .collect()
+}
+
+/// An entry that leads to level two.
+pub fn lead() -> NewEntry {
+    NewEntry {
+        class: LEAD,
+        subprogram: 0,
+        size: 0,
+        location: LEVEL_TWO as u64,
+        mode: 1,
+    }
+}
+
+/// An image of a length, with an EFS whose pointer leads to level one.
+pub fn image(length: usize, one: &[NewEntry], two: &[NewEntry]) -> Vec<u8> {
+    let mut image = vec![0; length];
+    image[EFS..EFS + 4].copy_from_slice(&[0xAA, 0x55, 0xAA, 0x55]);
+    image[EFS + 0x14..EFS + 0x18].copy_from_slice(&(LEVEL_ONE as u32).to_le_bytes());
+    for (place, bytes) in [
+        (LEVEL_ONE, directory_bytes(b"$PSP", one)),
+        (LEVEL_TWO, directory_bytes(b"$PL2", two)),
+    ] {
+        image[place..place + bytes.len()].copy_from_slice(&bytes);
+    }
+    image
+}
+
+/// A small image with `amount` entries in level one, none of which leads on.
+pub fn one_level(amount: usize) -> Vec<u8> {
+    image(SHORTEST, &mixed_entries(amount, 0), &[])
+}
+
+/// A small image with `amount` entries in each level; the middle one of level one leads to level two.
+pub fn entered_once(amount: usize) -> Vec<u8> {
+    let mut one = mixed_entries(amount, 0);
+    one[amount / 2] = lead();
+    image(SHORTEST, &one, &mixed_entries(amount, 1))
+}
+
+/// A small image whose level one has `amount` entries, each of which leads to the same level two of 512.
+pub fn entered_each(amount: usize) -> Vec<u8> {
+    image(SHORTEST, &vec![lead(); amount], &mixed_entries(512, 1))
+}
+
+/// An image of 16 MiB as a board has one: some thirty entries in level one, some sixty in level two. Variants differ in totals,
+/// types and places.
+pub fn board(variant: usize) -> Vec<u8> {
+    let mut one = mixed_entries(30 + variant, variant);
+    one[4 + variant] = lead();
+    image(LONGEST, &one, &mixed_entries(60 + variant, variant + 1))
+}
+
+/// A table in which no two fields have the same value.
+pub fn aspt() -> AsptTable {
+    let structure = |kind, id, registers| AsptStructure {
+        kind,
+        id,
+        registers,
+    };
+    AsptTable {
+        oem: *b"ABCDEF",
+        oem_table: *b"GHIJKLMN",
+        oem_revision: 0x1234_5678,
+        creator: 0x9ABC_DEF0,
+        creator_revision: 0x0FED_CBA9,
+        base: 0x0123_4567_89AB_C000,
+        pages: 0x10,
+        structures: [
+            structure(1, 1, [0x20, 0x24, 0x28]),
+            structure(2, 0, [0x2C, 0, 0]),
+            structure(0, 0, [0x10, 0x14, 0xFFFC]),
+        ],
+    }
+}
+
+/// The GUID of the entry that was added as number `i`.
+pub fn guid(i: usize) -> Guid {
+    let mut bytes = *b"\0\0\0\0a plain guid";
+    bytes[..4].copy_from_slice(&(i as u32).to_le_bytes());
+    Guid(bytes)
+}
+
+/// A guest firmware image whose table has `amount` entries, each with eight bytes of data.
+pub fn guest(amount: usize) -> Vec<u8> {
+    let mut image = vec![0; 50 + 26 * amount + 64];
+    second::guids::start(&mut image).expect("the image has room for a table");
+    for i in 0..amount {
+        second::guids::extend(&mut image, &guid(i).0, &(i as u64).to_le_bytes())
+            .expect("the image has room for each entry");
+    }
+    image
+}

@@ -1,0 +1,570 @@
+//! The plain reading in C beside the library and the second program, on random and on damaged inputs. A comparison of times is
+//! worth something only where all three give the same answers.
+//!
+//! The inputs follow from a seed, which is printed; the variable KPALUMERE_SEED sets it.
+
+use agree::random::Random;
+use bench::programs::{list_by_calls, Library, MailboxCalls, Plain, Program, Second};
+use bench::samples;
+use bindings::{Answer, AsptStructure, AsptTable, Guid, NewEntry, Place, Post, Register};
+use std::collections::BTreeSet;
+use std::fmt::Debug;
+use std::time::{SystemTime, UNIX_EPOCH};
+
+/// A test's random numbers, and the numbers of the refusals that it has met.
+struct Trial {
+    random: Random,
+    seed: u64,
+    met: BTreeSet<u64>,
+}
+
+impl Trial {
+    /// Prints the seed, which cargo shows where the test fails.
+    fn begin() -> Trial {
+        let clock = SystemTime::now().duration_since(UNIX_EPOCH);
+        let seed = match std::env::var("KPALUMERE_SEED") {
+            Ok(word) => word.parse().expect("KPALUMERE_SEED is a number"),
+            Err(_) => clock.map_or(0, |since| since.as_micros() as u64),
+        };
+        println!("seed {seed}; KPALUMERE_SEED={seed} tries the same inputs again");
+        Trial {
+            random: Random::from_seed(seed),
+            seed,
+            met: BTreeSet::new(),
+        }
+    }
+
+    /// Holds what the library, the second program and the plain reading gave to be the same.
+    fn equal<T: Debug + PartialEq>(&self, what: &str, [library, second, plain]: &[T; 3]) {
+        let seed = self.seed;
+        assert_eq!(plain, library, "C and library: {what}, seed {seed}");
+        assert_eq!(second, library, "second and library: {what}, seed {seed}");
+    }
+
+    /// The same of answers, whose numbers are kept; 0 stands for an accepted call.
+    fn same<T: Debug + PartialEq>(&mut self, what: &str, answers: [Answer<T>; 3]) {
+        self.equal(what, &answers);
+        let number = answers[0]
+            .as_ref()
+            .map_or_else(|refused| refused.number, |_| 0);
+        self.met.insert(number);
+    }
+
+    /// Holds these numbers, and no other, to have been met.
+    fn met_exactly(&self, numbers: &[u64]) {
+        let expected: BTreeSet<u64> = numbers.iter().copied().collect();
+        assert_eq!(self.met, expected, "the numbers met, seed {}", self.seed);
+    }
+
+    fn once_in(&mut self, times: u64) -> bool {
+        self.random.once_in(times)
+    }
+
+    fn below(&mut self, limit: usize) -> usize {
+        self.random.below(limit as u64) as usize
+    }
+
+    fn one_of<T: Copy>(&mut self, values: &[T]) -> T {
+        self.random.one_of(values)
+    }
+
+    /// Changes some bytes.
+    fn damage(&mut self, bytes: &mut [u8]) {
+        for _ in 0..1 + self.below(2) {
+            if bytes.is_empty() {
+                return;
+            }
+            let at = self.below(bytes.len());
+            bytes[at] = match self.below(3) {
+                0 => self.random.number() as u8,
+                1 => bytes[at] ^ 1 << self.below(8),
+                _ => self.one_of(&[0, 1, 0x40, 0xFF]),
+            };
+        }
+    }
+}
+
+/// An associated function of the three programs, with the same arguments.
+macro_rules! three {
+    ($name:ident($($given:expr),*)) => {
+        [Library::$name($($given),*), Second::$name($($given),*), Plain::$name($($given),*)]
+    };
+}
+
+// ---- the checksum
+
+#[test]
+fn checksums_are_the_same() {
+    let mut trial = Trial::begin();
+    for _ in 0..400 {
+        let length = trial.below(9000);
+        let mut bytes = trial.random.bytes(length);
+        if trial.once_in(8) {
+            bytes.fill(trial.one_of(&[0, 0xFF]));
+        }
+        trial.equal("checksum", &three!(checksum(&bytes)));
+    }
+}
+
+// ---- flash images
+
+/// Where a directory of a random image begins.
+const PLACES: [usize; 4] = [0, 0x100, 0x8001, 0x1_0000];
+
+/// An entry whose location leads, now and then, to one of the directories or to the image's end.
+fn random_entry(trial: &mut Trial, length: usize) -> NewEntry {
+    let mode = trial.below(4) as u32;
+    let near = [
+        0,
+        0x100,
+        0x8001,
+        0x1_0000,
+        length,
+        length + 1,
+        length - length / 2,
+    ];
+    let offset = trial.one_of(&near) as u64;
+    let location = match mode {
+        0 => 0xFF00_0000 + offset,
+        _ => offset,
+    };
+    NewEntry {
+        class: trial.one_of(&[0x40, 0x40, 0x0B, 1, 2, 3]),
+        subprogram: trial.below(3) as u8,
+        size: trial.one_of(&[0, 0, 1, 0x40, length as u32, u32::MAX]),
+        location: match trial.below(12) {
+            0 => trial.random.number() >> 2,
+            1 => location ^ 1 << 32,
+            _ => location,
+        },
+        mode,
+    }
+}
+
+fn random_entries(trial: &mut Trial, length: usize) -> Vec<NewEntry> {
+    let amount = match trial.below(20) {
+        0 => trial.one_of(&[511, 512, 513]),
+        _ => trial.below(6),
+    };
+    (0..amount).map(|_| random_entry(trial, length)).collect()
+}
+
+/// An image of which much is good, or all.
+fn random_image(trial: &mut Trial) -> Vec<u8> {
+    let length = match trial.below(40) {
+        0 => trial.one_of(&[0, 1, samples::LONGEST, samples::LONGEST + 1]),
+        1 => trial.one_of(&[0x82_0023, 0x82_0024]),
+        2 => samples::SHORTEST - 1,
+        _ => samples::SHORTEST + trial.below(2) * 0x400,
+    };
+    let mut image = vec![0; length];
+    for (place, cookie) in PLACES.iter().zip([b"$PSP", b"$PL2", b"$PL2", b"$PSP"]) {
+        let mut entries = random_entries(trial, length);
+        if cookie == b"$PL2" && !trial.once_in(8) {
+            entries.iter_mut().for_each(|entry| entry.class &= 0x3F);
+        }
+        let mut bytes = samples::directory_bytes(cookie, &entries);
+        if trial.once_in(3) {
+            let head = trial.one_of(&[16, 16, bytes.len()]);
+            trial.damage(&mut bytes[..head]);
+            if trial.once_in(2) {
+                samples::sum_again(&mut bytes);
+            }
+        }
+        put(&mut image, *place, &bytes);
+    }
+    for efs in [0x82_0000, samples::EFS] {
+        let mut bytes = [0; 0x24];
+        bytes[..4].copy_from_slice(&[0xAA, 0x55, 0xAA, 0x55]);
+        for at in [0x10, 0x14] {
+            let place = trial.one_of(&[0, 0x100, 0x1_0000, 0x1_0000, length]) as u32;
+            let pointer = match trial.below(6) {
+                0 => u32::MAX,
+                1 => 0x0100_0000 + place,
+                2 | 3 => 0xFF00_0000 | place,
+                _ => place,
+            };
+            bytes[at..at + 4].copy_from_slice(&pointer.to_le_bytes());
+        }
+        if trial.once_in(8) {
+            trial.damage(&mut bytes);
+        }
+        put(&mut image, efs, &bytes);
+    }
+    image
+}
+
+/// Writes what fits into the image.
+fn put(image: &mut [u8], place: usize, bytes: &[u8]) {
+    for (to, byte) in image.iter_mut().skip(place).zip(bytes) {
+        *to = *byte;
+    }
+}
+
+#[test]
+fn flash_images_are_read_the_same() {
+    let mut trial = Trial::begin();
+    for _ in 0..1500 {
+        let image = random_image(&mut trial);
+        for level in [1, 2, trial.one_of(&[0, 1, 2, 3, u32::MAX])] {
+            trial.same("directory", three!(directory(&image, level)));
+            let index = trial.one_of(&[0, 0, 1, 2, 5, 511, 512, usize::MAX]);
+            trial.same("entry", three!(entry(&image, level, index)));
+            trial.same("part", three!(part(&image, level, index)));
+            let (class, subprogram) = (trial.one_of(&[0x40, 0x0B, 1, 9]), trial.below(3) as u8);
+            trial.same("find", three!(find(&image, level, class, subprogram)));
+            trial.same("find_image", three!(find_image(&image, class, subprogram)));
+        }
+    }
+    trial.met_exactly(&[0, 1, 2, 3, 4, 5, 7, 8, 9, 14, 15, 16, 17]);
+}
+
+#[test]
+fn a_directory_listed_at_once_is_what_the_calls_give() {
+    /// What is handed over for a level, and the directory or the refusal.
+    fn listed<P: Program>(image: &[u8], level: u32, at_once: bool) -> String {
+        let mut told = Vec::new();
+        let directory = if at_once {
+            P::list(image, level, |entry, part| told.push((entry, part)))
+        } else {
+            list_by_calls::<P>(image, level, |entry, part| told.push((entry, part)))
+        };
+        format!("{told:?} {directory:?}")
+    }
+    let mut trial = Trial::begin();
+    let mut entries = 0;
+    for _ in 0..200 {
+        let image = random_image(&mut trial);
+        for level in [1, 2] {
+            let expected = listed::<Library>(&image, level, false);
+            entries += expected.matches("class").count();
+            let told = [
+                listed::<Library>(&image, level, true),
+                listed::<Second>(&image, level, true),
+                listed::<Plain>(&image, level, true),
+            ];
+            trial.equal("list", &told);
+            assert_eq!(
+                told[0], expected,
+                "at once and by calls, seed {}",
+                trial.seed
+            );
+        }
+    }
+    assert!(entries > 0, "no image had an entry, seed {}", trial.seed);
+}
+
+#[test]
+fn directories_are_written_the_same() {
+    let mut trial = Trial::begin();
+    for _ in 0..1500 {
+        let room = trial.one_of(&[0, 15, 16, 17, 47, 48, 64, 100, 16 + 512 * 16, 9000]);
+        let mut buffers = [(); 3].map(|()| vec![0xEE; room]);
+        let level = trial.one_of(&[0, 1, 1, 2, 2, 3]);
+        let [library, second, plain] = &mut buffers;
+        let started = [
+            Library::start(library, level),
+            Second::start(second, level),
+            Plain::start(plain, level),
+        ];
+        trial.same("start", started);
+        trial.equal("bytes after a start", &buffers);
+        if room > 8000 && trial.once_in(2) {
+            let amount = 511 + trial.below(2);
+            let entries = samples::mixed_entries(amount, 0);
+            for buffer in &mut buffers {
+                put(buffer, 0, &samples::directory_bytes(b"$PL2", &entries));
+            }
+        }
+        for _ in 0..4 {
+            if trial.once_in(4) {
+                let mut damaged = buffers[0].clone();
+                let reach = damaged.len().min(48);
+                trial.damage(&mut damaged[..reach]);
+                if trial.once_in(2) && damaged.len() > 16 && damaged[8] < 3 {
+                    let end = damaged.len().min(16 + 16 * usize::from(damaged[8]));
+                    samples::sum_again(&mut damaged[..end]);
+                }
+                buffers = [(); 3].map(|()| damaged.clone());
+            }
+            let mut entry = random_entry(&mut trial, room.max(2));
+            match trial.below(10) {
+                0 => entry.location = 1 << 62,
+                1 => entry.mode = 4,
+                _ => (),
+            }
+            let [library, second, plain] = &mut buffers;
+            let extended = [
+                Library::extend(library, &entry),
+                Second::extend(second, &entry),
+                Plain::extend(plain, &entry),
+            ];
+            trial.same("extend", extended);
+            trial.equal("bytes after an extend", &buffers);
+        }
+    }
+    trial.met_exactly(&[0, 1, 2, 3, 4, 5, 9, 12, 14]);
+}
+
+// ---- the ASPT
+
+fn random_table(trial: &mut Trial) -> AsptTable {
+    let mut table = samples::aspt();
+    table.pages = trial.one_of(&[0, 1, 1, 2, u32::MAX]);
+    let space = u64::from(table.pages) * 4096;
+    table.base = match trial.below(6) {
+        0 => trial.random.number(),
+        1 => 0u64.wrapping_sub(space),
+        2 => 0u64.wrapping_sub(space).wrapping_add(4096),
+        _ => trial.random.number() >> 24 << 12,
+    };
+    for (structure, kind) in table.structures.iter_mut().zip([2, 0, 1]) {
+        let far = space.saturating_sub(4) as u32;
+        *structure = AsptStructure {
+            kind: match trial.below(12) {
+                0 => trial.one_of(&[0, 1, 2, 3, 0x100]),
+                _ => kind,
+            },
+            id: match trial.below(8) {
+                0 => trial.random.number() as u8,
+                _ => u8::from(kind == 1),
+            },
+            registers: [(); 3].map(|()| match trial.below(12) {
+                0 => far.wrapping_add(1),
+                1 => trial.random.number() as u32,
+                _ => trial.one_of(&[0, 4, far]),
+            }),
+        };
+    }
+    table
+}
+
+#[test]
+fn aspt_tables_are_written_and_read_the_same() {
+    let mut trial = Trial::begin();
+    for _ in 0..6000 {
+        let table = random_table(&mut trial);
+        let room = trial.one_of(&[0, 111, 112, 112, 112, 120]);
+        let mut buffers = [(); 3].map(|()| vec![0xEE; room]);
+        let [library, second, plain] = &mut buffers;
+        let written = [
+            Library::aspt_write(library, &(&table).into()),
+            Second::aspt_write(second, &(&table).into()),
+            Plain::aspt_write(plain, &(&table).into()),
+        ];
+        trial.same("ASPT write", written);
+        trial.equal("bytes after an ASPT write", &buffers);
+        let mut bytes = buffers[0].clone();
+        if trial.once_in(2) {
+            trial.damage(&mut bytes);
+            if trial.once_in(2) && bytes.len() >= 112 {
+                let sum = bytes[..112]
+                    .iter()
+                    .fold(0u8, |sum, byte| sum.wrapping_add(*byte));
+                bytes[9] = bytes[9].wrapping_sub(sum);
+            }
+        }
+        let read = [
+            Library::aspt_read(&bytes).map(|table| Library::told(&table)),
+            Second::aspt_read(&bytes).map(|table| Second::told(&table)),
+            Plain::aspt_read(&bytes).map(|table| Plain::told(&table)),
+        ];
+        trial.same("ASPT read", read);
+    }
+    trial.met_exactly(&[0, 1, 2, 3, 4, 5, 6, 7, 12]);
+}
+
+// ---- the GUID table
+
+fn random_guid(trial: &mut Trial) -> Guid {
+    let mut guid = samples::guid(trial.below(3));
+    // GUIDs that differ in their last byte alone.
+    guid.0[15] = trial.below(2) as u8;
+    guid
+}
+
+#[test]
+fn guid_tables_are_read_and_written_the_same() {
+    let mut trial = Trial::begin();
+    for _ in 0..2000 {
+        let length = match trial.below(16) {
+            0 => 70_000,
+            1 => trial.one_of(&[0, 49, 50, 51]),
+            _ => 50 + trial.below(200),
+        };
+        let fill = u8::from(trial.once_in(8));
+        let mut buffers = [(); 3].map(|()| vec![fill; length]);
+        let [library, second, plain] = &mut buffers;
+        let started = [
+            Library::guid_start(library),
+            Second::guid_start(second),
+            Plain::guid_start(plain),
+        ];
+        trial.same("GUID start", started);
+        trial.equal("bytes after a GUID start", &buffers);
+        for _ in 0..6 {
+            if trial.once_in(6) {
+                let mut damaged = buffers[0].clone();
+                let from = damaged.len().saturating_sub(120);
+                trial.damage(&mut damaged[from..]);
+                buffers = [(); 3].map(|()| damaged.clone());
+            }
+            let guid = random_guid(&mut trial);
+            let amount = match length {
+                70_000 => trial.one_of(&[0, 30_000, 65_481, 65_499, 65_500, 65_600]),
+                _ => trial.below(30),
+            };
+            let data = vec![7; amount];
+            let [library, second, plain] = &mut buffers;
+            let extended = [
+                Library::guid_extend(library, &guid, &data),
+                Second::guid_extend(second, &guid, &data),
+                Plain::guid_extend(plain, &guid, &data),
+            ];
+            trial.same("GUID extend", extended);
+            trial.equal("bytes after a GUID extend", &buffers);
+            trial.same("GUID table", three!(guids(&buffers[0])));
+            let wanted = random_guid(&mut trial);
+            trial.same("GUID find", three!(guid_find(&buffers[0], &wanted)));
+        }
+    }
+    trial.met_exactly(&[0, 1, 2, 3, 6, 8, 12, 13]);
+}
+
+// ---- the mailbox
+
+/// The three programs' mailboxes, which are to answer the same.
+struct Mailboxes(
+    <Library as Program>::Mailbox,
+    <Second as Program>::Mailbox,
+    <Plain as Program>::Mailbox,
+);
+
+/// A call on each of the mailboxes.
+macro_rules! each {
+    ($mailboxes:expr, $name:ident($($given:expr),*)) => {
+        [
+            MailboxCalls::$name(&mut $mailboxes.0 $(, $given)*),
+            MailboxCalls::$name(&mut $mailboxes.1 $(, $given)*),
+            MailboxCalls::$name(&mut $mailboxes.2 $(, $given)*),
+        ]
+    };
+}
+
+/// A mailbox that keeps the rules more often than not.
+fn random_mailboxes(trial: &mut Trial) -> Mailboxes {
+    let mut callers: Vec<u32> = (0..8).collect();
+    for i in (1..8).rev() {
+        callers.swap(i, trial.below(i + 1));
+    }
+    let in_line = trial.below(5);
+    let mut places = [Place::Free; 8];
+    let mut line: Vec<Post> = Vec::new();
+    for caller in &callers[..in_line] {
+        places[*caller as usize] = Place::Waiting;
+        line.push(Post {
+            caller: *caller,
+            command: 0x80 + trial.below(8) as u16,
+            data: trial.one_of(&[0, 1, 0x401, 0xFC00, 0xFFFF]),
+        });
+    }
+    let (caller, data) = (callers[in_line], trial.random.number() as u32 & 0xFFFF);
+    let register = match trial.below(3) {
+        0 => Register::Idle,
+        1 => Register::Command {
+            caller,
+            word: 0x0080_0000 + ((trial.below(8) as u32) << 16) + data,
+        },
+        _ => Register::Response {
+            caller,
+            word: trial.random.number() as u32,
+        },
+    };
+    if register != Register::Idle {
+        places[caller as usize] = Place::Waiting;
+    }
+    if trial.once_in(2) {
+        places[callers[7] as usize] = Place::Ready(data);
+    }
+    let register = damage_mailbox(trial, &mut line, register, &mut places);
+    Mailboxes(
+        MailboxCalls::of(&line, register, places),
+        MailboxCalls::of(&line, register, places),
+        MailboxCalls::of(&line, register, places),
+    )
+}
+
+/// Breaks a rule, now and then.
+fn damage_mailbox(
+    trial: &mut Trial,
+    line: &mut [Post],
+    register: Register,
+    places: &mut [Place; 8],
+) -> Register {
+    let stray = trial.one_of(&[0, 7, 8, 255]);
+    match (trial.below(12), line.first_mut(), register) {
+        (0, Some(post), _) => post.caller = stray,
+        (1, Some(post), _) => post.command = trial.one_of(&[0x3FF, 0x400, 0xFFFF]),
+        (2, _, Register::Command { word, .. }) => {
+            return Register::Command {
+                caller: stray,
+                word,
+            }
+        }
+        (3, _, Register::Command { caller, .. }) => {
+            let word = trial.one_of(&[0x03FF_0000, 0x0400_0000, 0x8080_0000]);
+            return Register::Command { caller, word };
+        }
+        (4, _, Register::Response { word, .. }) => {
+            return Register::Response {
+                caller: stray,
+                word,
+            }
+        }
+        (5, _, _) => {
+            let place = trial.below(8);
+            places[place] = trial.one_of(&[Place::Free, Place::Waiting, Place::Ready(1)]);
+        }
+        _ => (),
+    }
+    register
+}
+
+#[test]
+fn mailboxes_answer_the_same() {
+    let mut trial = Trial::begin();
+    for _ in 0..600 {
+        let mut mailboxes = match trial.below(3) {
+            0 => Mailboxes(
+                MailboxCalls::fresh(),
+                MailboxCalls::fresh(),
+                MailboxCalls::fresh(),
+            ),
+            _ => random_mailboxes(&mut trial),
+        };
+        for _ in 0..30 {
+            let caller = trial.below(9) as u32;
+            match trial.below(6) {
+                0 | 1 => {
+                    let command = trial.one_of(&[
+                        0x80, 0x81, 0x82, 0x83, 0x84, 0x82, 0x83, 0x84, 0x85, 0x85, 0x86, 0x3FF,
+                        0x400,
+                    ]);
+                    let data = trial.one_of(&[0, 1, 2, 0x400, 0x401, 0x403, 0xFC00, 0xFC01]);
+                    trial.same("post", each!(mailboxes, post(caller, command, data)));
+                }
+                2 => trial.same("load", each!(mailboxes, load())),
+                3 => trial.same("turn", each!(mailboxes, turn())),
+                4 => trial.same("unload", each!(mailboxes, unload())),
+                _ => trial.same("take", each!(mailboxes, take(caller))),
+            }
+            let states = [
+                mailboxes.0.firmware(),
+                MailboxCalls::firmware(&mailboxes.1),
+                MailboxCalls::firmware(&mailboxes.2),
+            ];
+            trial.equal("the firmware's state", &states);
+        }
+    }
+    trial.met_exactly(&[0, 5, 8, 9, 10, 11]);
+}
