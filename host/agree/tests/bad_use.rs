@@ -20,8 +20,11 @@ struct Reader {
     words: &'static [&'static str],
     /// The same, where the bytes come over standard input.
     over_input: &'static [&'static str],
-    /// A file of the folder of cases for which the command prints something, and the status that it then ends with.
-    good: (&'static str, i32),
+    /// Names a file for which the command prints something. One of the folder of cases is named from there on; one that has
+    /// to be made is put into the folder given.
+    good: fn(&Path) -> PathBuf,
+    /// The status that it then ends with.
+    status: i32,
     /// The status for a file with no bytes, with 64 MiB of zeros, and with one byte more.
     empty: i32,
     largest: i32,
@@ -36,7 +39,8 @@ const READERS: [Reader; 2] = [
     Reader {
         words: &["ask", FILE],
         over_input: &["ask"],
-        good: ("images/plain-board.ask", 0),
+        good: |_| PathBuf::from("images/plain-board.ask"),
+        status: 0,
         empty: 0,
         largest: 1,
         larger: 1,
@@ -44,7 +48,8 @@ const READERS: [Reader; 2] = [
     Reader {
         words: &["mailbox", FILE],
         over_input: &["mailbox", "-"],
-        good: ("images/machine-6-two-programs.ask", 1),
+        good: |_| PathBuf::from("images/machine-6-two-programs.ask"),
+        status: 1,
         empty: 0,
         largest: 1,
         larger: 3,
@@ -149,10 +154,10 @@ fn started(program: Vec<OsString>, words: Vec<OsString>, folder: &Path) -> Comma
 }
 
 /// Every command that there is, doing something that prints, with the status that it ends with.
-fn all_that_print() -> Vec<(Command, i32)> {
+fn all_that_print(folder: &Folder) -> Vec<(Command, i32)> {
     let readers = READERS.iter().map(|reader| {
-        let (file, status) = reader.good;
-        (reader.on(OsStr::new(file)), status)
+        let file = (reader.good)(&folder.0);
+        (reader.on(file.as_os_str()), reader.status)
     });
     let printers = PRINTERS.iter().map(|words| (tool(texts(words)), 0));
     readers.chain(printers).collect()
@@ -331,14 +336,16 @@ fn input_that_is_a_folder_or_is_closed() {
 
 #[test]
 fn output_that_is_full() {
-    for (mut command, _) in all_that_print() {
+    let folder = Folder::new("full");
+    for (mut command, _) in all_that_print(&folder) {
         fails(command.stdout(full()), &["cannot be written", "room"]);
     }
 }
 
 #[test]
 fn output_that_nobody_reads_is_no_fault() {
-    for (mut command, status) in all_that_print() {
+    let folder = Folder::new("unread");
+    for (mut command, status) in all_that_print(&folder) {
         let run = ended(command.stdout(unread_pipe()));
         // What was to be said is not known to be wrong: either all is well, or the status is that of the answers.
         assert!([Some(0), Some(status)].contains(&run.status), "{command:?}");
@@ -348,7 +355,8 @@ fn output_that_nobody_reads_is_no_fault() {
 
 #[test]
 fn output_that_is_closed() {
-    for (command, status) in all_that_print() {
+    let folder = Folder::new("closed");
+    for (command, status) in all_that_print(&folder) {
         let run = ended(&mut redirected(&command, ">&-"));
         assert_eq!(run.status, Some(status), "{command:?}");
         let run = ended(&mut redirected(&command, "<&- >&- 2>&-"));
@@ -381,8 +389,10 @@ fn messages_that_cannot_be_written() {
 
 #[test]
 fn scripts_that_are_cut_off() {
+    let folder = Folder::new("cut");
     for reader in &READERS {
-        let whole = fs::read(cases::folder().join(reader.good.0)).unwrap();
+        let file = (reader.good)(&folder.0);
+        let whole = fs::read(cases::folder().join(file)).expect("the file can be read");
         for part in 1..24 {
             let cut = &whole[..whole.len() * part / 24];
             let status = reader.run_on(cut).status;
