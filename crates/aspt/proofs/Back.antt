@@ -8,18 +8,20 @@ use lib.ListN.{length, getD, take, drop, length-append, length-take, length-drop
 use lib.Seq.{take-at, take-all, drop-drop, length-take-le, getD-take, getD-drop}
 use lib.Dec.{leb}
 use borrow.Author.Tests.{eq-eqb, le-leb, leb-true, leb-false}
-use Rattle.le.specs.Le.{leAt, leBytes}
+use Rattle.le.specs.Le.{leAt, leBytes, Bytes, bytesOf}
+use Rattle.le.specs.Back.{Held}
+use Rattle.le.proofs.Laws.{byte-le}
+use Rattle.le.proofs.Part.{part-length, part-rest, part-bytes}
+use Rattle.le.proofs.Numbers.{held, held-again}
 use Rattle.reply.specs.Reply.{Reply, given, alone, check, then}
 use Rattle.reply.proofs.ReplyLaws.{passed, then-given}
-use Rattle.aspt.specs.Field.{bytesOf}
 use Rattle.aspt.specs.Rules.{done, sumOf, spaceChecks, structuresChecks}
 use Rattle.aspt.specs.Bytes.{structureIn, foundIn, asGiven, partOf, tableWith, tableIn, ownOf, identityFields, makerFields, spaceFields, partBytes, bytesWith, checksumOf, tableBytes}
 use Rattle.aspt.specs.Calls.{headerChecks, structuresRead, tableOf, readOf, admitOf, writeOf, writtenBy}
 use Rattle.aspt.specs.Good.{GoodPart, Holds}
-use Rattle.aspt.specs.Back.{Bytes, Narrow, ownTable, WrittenReadBack, SameAgain, RestIgnored}
+use Rattle.aspt.specs.Back.{Narrow, ownTable, WrittenReadBack, SameAgain, RestIgnored}
 use Rattle.aspt.specs.declared.Table.{Table}
-use Rattle.aspt.proofs.Fields.{Held, held, held-bytes}
-use Rattle.aspt.proofs.Checks.{byte-one, admit-then}
+use Rattle.aspt.proofs.Checks.{admit-then}
 use Rattle.aspt.proofs.Written.{table-long}
 use Rattle.aspt.proofs.Parts.{found-back, three-own, own-again, part-again}
 use Rattle.aspt.proofs.Accept.{read-acceptance, write-acceptance}
@@ -60,38 +62,8 @@ module _ (t : Table) (narrow : Narrow t) where
   head : Held (identityFields (checksumOf t) ++ (makerFields t ++ spaceFields t)) (tableBytes t) 0
   unfolding tableBytes bytesWith
   head =
-      held (identityFields (checksumOf t) ++ (makerFields t ++ spaceFields t)) [] (partBytes (t .first) ++ (partBytes (t .second) ++ partBytes (t .third))) 0 (
-        omega arith,
-        (
-          omega arith,
-          (
-            omega arith,
-            (
-              omega arith,
-              (
-                narrow .«oem_low»,
-                (
-                  narrow .«oem_high»,
-                  (
-                    narrow .«oem_table»,
-                    (
-                      narrow .«oem_revision»,
-                      (
-                        narrow .creator,
-                        (
-                          narrow .«creator_revision»,
-                          (narrow .base, (narrow .pages, (omega arith, tt))),
-                        ),
-                      ),
-                    ),
-                  ),
-                ),
-              ),
-            ),
-          ),
-        ),
-      )
-      refl
+      held (identityFields (checksumOf t) ++ (makerFields t ++ spaceFields t)) (tableBytes t) [] (partBytes (t .first) ++ (partBytes (t .second) ++ partBytes (t .third))) 0 refl refl
+      (omega arith, (omega arith, (omega arith, (omega arith, (narrow .«oem_low», (narrow .«oem_high», (narrow .«oem_table», (narrow .«oem_revision», (narrow .creator, (narrow .«creator_revision», (narrow .base, (narrow .pages, (omega arith, tt)))))))))))))
 
   parts : (partOf 0 (tableBytes t) ≡ partBytes (t .first)) × (partOf 1 (tableBytes t) ≡ partBytes (t .second)) × (partOf 2 (tableBytes t) ≡ partBytes (t .third))
   unfolding tableBytes bytesWith partBytes bytesOf leBytes
@@ -158,22 +130,12 @@ written-read-back = record {
       ap (λ (r : Reply Unit). readOf (writtenBy t s r)) e ∙ judged t narrow (drop 112 s) ∙ ap (λ (r : Reply Unit). then r (λ _. given (ownTable t))) admitted;
 }
 
--- a part of bytes is bytes
-part-bytes : (s : List ℕ) (n o : ℕ) → Bytes s → Bytes (take n (drop o s))
-part-bytes s n o bytes i = by (leb n i) refl
-  where
-    by : (out : Bool) → leb n i ≡ out → getD (take n (drop o s)) i 0 < 256
-    by true e = rw (List·getD-eq-default (take n (drop o s)) 0 {n = i} (let h : n ≤ i = leb-true n i e in omega (arith, length-take n (drop o s)))) (omega arith)
-    by false e = rw (getD-take n (drop o s) i 0 (leb-false n i e), getD-drop o s i 0) (bytes (o + i))
-
 -- 112 bytes are the bytes before the structures and those of the structures
 split : (s : List ℕ) → length s ≡ 112 → take 52 s ++ (partOf 0 s ++ (partOf 1 s ++ partOf 2 s)) ≡ s
 split s long =
-    let next : (o : ℕ) → take 20 (drop o s) ++ drop (o + 20) s ≡ drop o s =
-    λ o. ap (λ (x : List ℕ). take 20 (drop o s) ++ x) (sym (drop-drop 20 o s)) ∙ take-append-drop 20 (drop o s) in
     ap (λ (x : List ℕ). take 52 s ++ (take 20 (drop 52 s) ++ (take 20 (drop 72 s) ++ x))) (take-all 20 (drop 92 s) (omega (arith, length-drop 92 s)))
-    ∙ ap (λ (x : List ℕ). take 52 s ++ (take 20 (drop 52 s) ++ x)) (next 72)
-    ∙ ap (λ (x : List ℕ). take 52 s ++ x) (next 52)
+    ∙ ap (λ (x : List ℕ). take 52 s ++ (take 20 (drop 52 s) ++ x)) (part-rest s 72 20)
+    ∙ ap (λ (x : List ℕ). take 52 s ++ x) (part-rest s 52 20)
     ∙ take-append-drop 52 s
 
 -- bytes that hold a table
@@ -181,13 +143,12 @@ module _ (s : List ℕ) (bytes : Bytes s) (long : length s ≡ 112) (h : Holds s
   head-again : bytesOf (identityFields (leAt 1 s 9) ++ (makerFields (tableIn s) ++ spaceFields (tableIn s))) ≡ take 52 s
   unfolding bytesOf leBytes
   head-again =
-      held-bytes (identityFields (leAt 1 s 9) ++ (makerFields (tableIn s) ++ spaceFields (tableIn s))) s 0 bytes (omega arith)
+      held-again (identityFields (leAt 1 s 9) ++ (makerFields (tableIn s) ++ spaceFields (tableIn s))) s 0 bytes (omega arith)
       (h .signature, (h .long, (h .revision, (refl, (refl, (refl, (refl, (refl, (refl, (refl, (refl, (refl, (h .count, tt)))))))))))))
 
   again : (i : ℕ) → 52 + 20 * i + 20 ≤ length s → GoodPart (partOf i s) → leAt 2 (partOf i s) 0 ≤ 2 → partBytes (structureIn (partOf i s)) ≡ partOf i s
   again i inside good type =
-      part-again (partOf i s) good type (part-bytes s 20 (52 + 20 * i) bytes)
-      (length-take-le 20 (drop (52 + 20 * i) s) (omega (arith, length-drop (52 + 20 * i) s)))
+      part-again (partOf i s) good type (part-bytes s (52 + 20 * i) 20 bytes) (part-length s (52 + 20 * i) 20 inside)
 
   with-again : bytesWith (leAt 1 s 9) (tableIn s) ≡ s
   unfolding bytesWith
@@ -201,7 +162,7 @@ module _ (s : List ℕ) (bytes : Bytes s) (long : length s ≡ 112) (h : Holds s
   table-again : tableBytes (tableIn s) ≡ s
   unfolding tableBytes
   table-again =
-      let sum = sum-only (tableIn s) (leAt 1 s 9) (rw (← byte-one s 9) (bytes 9)) (ap (λ (x : List ℕ). sumOf x % 256) with-again ∙ h .sum) in
+      let sum = sum-only (tableIn s) (leAt 1 s 9) (rw (← byte-le s 9) (bytes 9)) (ap (λ (x : List ℕ). sumOf x % 256) with-again ∙ h .sum) in
       ap (λ (c : ℕ). bytesWith c (tableIn s)) (sym sum) ∙ with-again
 
 -- what is read, and that the first 112 bytes hold it
@@ -226,7 +187,7 @@ module _ (s : List ℕ) (t : Table) (e : readOf s ≡ given t) where
   bytes-again : (b : List ℕ) → Bytes s → tableBytes t ++ drop 112 b ≡ take 112 s ++ drop 112 b
   bytes-again b bytes =
       ap (λ (x : List ℕ). x ++ drop 112 b)
-      (ap tableBytes (holds .table) ∙ table-again (take 112 s) (part-bytes s 112 0 bytes) (length-take-le 112 s (read-acceptance .only s t e .0)) holds-in)
+      (ap tableBytes (holds .table) ∙ table-again (take 112 s) (part-bytes s 0 112 bytes) (length-take-le 112 s (read-acceptance .only s t e .0)) holds-in)
 
 pub same-again : SameAgain
 same-again = record {

@@ -8,7 +8,7 @@ use lib.ListN.{getD}
 use lib.Dec.{leb, eqb}
 use borrow.Author.Tests.{leb-true, leb-false, le-leb, lt-leb, eq-eqb, ne-eqb, eqb-true, eqb-false}
 use Rattle.le.specs.Le.{leAt}
-use Rattle.le.proofs.Laws.{le-split}
+use Rattle.le.proofs.Laws.{le-split, byte-le}
 use Rattle.reply.specs.Reply.{Reply, Carried, check, guard, then}
 use Rattle.aspt.specs.Rules.{done, sumOf, fresh, idFits, registersFit, spaceChecks, structureChecks, structuresChecks}
 use Rattle.aspt.specs.Bytes.{reservedZero, asGiven}
@@ -58,11 +58,6 @@ module _ {A : Type 0} (rest : Reply A) where
   unfolding headerChecks
   header-then s = simp check-then
 
--- the byte at a place, as a number of one byte
-pub byte-one : (s : List ℕ) (o : ℕ) → getD s o 0 ≡ leAt 1 s o
-unfolding leAt
-byte-one s o = omega arith
-
 -- the end of the register space, counted in pages
 pub in-pages : (base pages : ℕ) → base % 4096 ≡ 0 → leb (base / 4096 + pages) 0x10_0000_0000_0000 ≡ (eqb (base % 4096) 0 && leb (base + 4096 * pages) (2 ^ 64))
 in-pages base pages aligned = rw (eq-eqb (base % 4096) 0 aligned) (by (leb (base / 4096 + pages) 0x10_0000_0000_0000) refl)
@@ -90,7 +85,7 @@ pub header-by : {A : Type 0} (s : List ℕ) (rest : Reply A) (signature size rev
     (eqb (leAt 8 s 36 % 4096) 0 && leb (leAt 8 s 36 + 4096 * leAt 4 s 44) (2 ^ 64)) ≡ space → eqb (leAt 4 s 48) 3 ≡ count →
     guard signature 2 (guard size 3 (guard revision 5 (guard sum 4 (guard space 5 (guard count 3 rest))))) ≡ headerChecks s rest
 unfolding headerChecks
-header-by s rest _ _ _ _ _ _ a b c d e f = sym (rw (← byte-one s 8, a, b, c, d, ← space-by (leAt 8 s 36) (leAt 4 s 44) _ _ e, f))
+header-by s rest _ _ _ _ _ _ a b c d e f = sym (rw (← byte-le s 8, a, b, c, d, ← space-by (leAt 8 s 36) (leAt 4 s 44) _ _ e, f))
 
 -- two numbers that are zero together are tested alike
 same-zero : (a b : ℕ) → (a ≡ 0 → b ≡ 0) → (b ≡ 0 → a ≡ 0) → eqb a 0 ≡ eqb b 0
@@ -106,7 +101,7 @@ module _ (p : List ℕ) (kind : ℕ) (is : kind ≡ leAt 2 p 0) where
     pub reserved-one : (b : ℕ) → b ≡ getD p 7 0 → h ≡ 0 → eqb b 0 ≡ reservedZero p
     unfolding reservedZero
     reserved-one b e z =
-        let split : leAt 3 p 5 ≡ h + 65536 * b = omega (arith, le-split 2 1 p 5, byte-one p 7) in
+        let split : leAt 3 p 5 ≡ h + 65536 * b = omega (arith, le-split 2 1 p 5, byte-le p 7) in
         rw (holds _ _ 1 is one) (same-zero b (leAt 3 p 5) (λ q. omega arith) (λ q. omega arith))
 
     pub reserved-one-not : (h ≡ 0 → ⊥) → false ≡ reservedZero p

@@ -1,6 +1,5 @@
 pub mod Loops
 pub mod Checks
-pub mod Fields
 pub mod Written
 pub mod Told
 pub mod Parts

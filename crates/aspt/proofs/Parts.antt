@@ -8,16 +8,16 @@ use lib.ListN.{length}
 use lib.Seq.{take-all}
 use lib.Dec.{eqb}
 use borrow.Author.Tests.{eq-eqb, eqb-true, eqb-false}
-use Rattle.le.specs.Le.{leAt}
+use Rattle.le.specs.Le.{leAt, Bytes, bytesOf}
+use Rattle.le.specs.Back.{Held, Fit}
 use Rattle.le.proofs.Laws.{le-split}
+use Rattle.le.proofs.Numbers.{held, held-again}
 use Rattle.reply.specs.Reply.{Reply}
-use Rattle.aspt.specs.Field.{bytesOf}
 use Rattle.aspt.specs.Rules.{idFits, inSpace, registersFit, structureChecks, structuresChecks}
 use Rattle.aspt.specs.Bytes.{structureIn, reservedZero, foundIn, asGiven, ownOf, partFields, partBytes}
 use Rattle.aspt.specs.Good.{GoodPart}
-use Rattle.aspt.specs.Back.{Bytes, NarrowStructure}
+use Rattle.aspt.specs.Back.{NarrowStructure}
 use Rattle.aspt.specs.declared.Structure.{Structure}
-use Rattle.aspt.proofs.Fields.{Held, Fit, held, held-bytes}
 use Rattle.aspt.proofs.Written.{part-long}
 
 either : (b : Bool) (x y n : ℕ) → x < n → y < n → cond b x y < n
@@ -76,7 +76,7 @@ found-back st narrow =
         ),
       ),
     ) in
-    found st (bytesOf fields) (rw append-nil at (held fields [] [] 0 fit refl))
+    found st (bytesOf fields) (held fields (bytesOf fields) [] [] 0 (sym (append-nil (bytesOf fields))) refl fit)
 
 -- the fields that the type lacks have no part in the checks
 module _ {A : Type 0} (pages : ℕ) (seen : List ℕ) (st : Structure) (rest : Reply A) where
@@ -156,5 +156,5 @@ module _ (p : List ℕ) (good : GoodPart p) (type : leAt 2 p 0 ≤ 2) where
   part-again bytes long =
       let n : length (bytesOf (partFields (structureIn p))) ≡ 20 = ap (λ (st : Structure). length (bytesOf (partFields st))) (sym own-again) ∙ part-long (structureIn p) in
       ap (λ (st : Structure). bytesOf (partFields st)) own-again
-      ∙ held-bytes (partFields (structureIn p)) p 0 bytes (omega arith) (refl, (good .long, (refl, (five, (refl, (refl, (refl, tt)))))))
+      ∙ held-again (partFields (structureIn p)) p 0 bytes (omega arith) (refl, (good .long, (refl, (five, (refl, (refl, (refl, tt)))))))
       ∙ take-all (length (bytesOf (partFields (structureIn p)))) p (omega arith)

@@ -3,8 +3,7 @@ use mathlib.Core.Path.{_≡_, refl}
 use mathlib.Core.List.{List, [], _∷_, _++_}
 use Prim.Native.Nat.{ℕ}
 use Rattle.reply.specs.Reply.{given}
-use Rattle.le.specs.Le.{leAt, leBytes}
-use Rattle.aspt.specs.Field.{bytesOf}
+use Rattle.le.specs.Le.{leAt, leBytes, bytesOf}
 use Rattle.aspt.specs.Rules.{sumOf, fresh, idFits, registersFit, structureChecks, structuresChecks}
 use Rattle.aspt.specs.Bytes.{reservedZero, foundIn, ownOf, partBytes, bytesWith, tableBytes}
 use Rattle.aspt.specs.Calls.{headerChecks, tableOf, readOf}

@@ -6,10 +6,9 @@ use native.Mathlib.Omega.{arith}
 use lib.ListN.{length, take, drop, length-append}
 use lib.Seq.{drop-drop}
 use borrow.Rule.Slice.PartMut.{putMid}
-use Rattle.le.specs.Le.{leBytes, putBytes, putAt}
+use Rattle.le.specs.Le.{leBytes, putBytes, putAt, bytesOf}
 use Rattle.le.proofs.Put.{put-some, put-join}
 use Rattle.le.proofs.Back.{put-long}
-use Rattle.aspt.specs.Field.{bytesOf}
 use Rattle.aspt.specs.Bytes.{identityFields, makerFields, spaceFields, partBytes, bytesWith}
 use Rattle.aspt.specs.declared.Structure.{Structure}
 use Rattle.aspt.specs.declared.Table.{Table}

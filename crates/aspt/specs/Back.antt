@@ -2,17 +2,14 @@
 use Prim.Native.Nat.{ℕ, _^_, _<_, _≤_}
 use mathlib.Core.Path.{_≡_}
 use mathlib.Core.List.{List, _++_}
-use lib.ListN.{length, getD, take, drop}
+use lib.ListN.{length, take, drop}
+use Rattle.le.specs.Le.{Bytes}
 use Rattle.reply.specs.Reply.{given, then}
 use Rattle.aspt.specs.Rules.{done}
 use Rattle.aspt.specs.Bytes.{ownOf, tableBytes}
 use Rattle.aspt.specs.Calls.{readOf, admitOf, writeOf, writtenBy}
 use Rattle.aspt.specs.declared.Structure.{Structure}
 use Rattle.aspt.specs.declared.Table.{Table}
-
--- every number of a list of bytes is below 256
-abbrev pub Bytes : List ℕ → Type 0
-Bytes s = (i : ℕ) → getD s i 0 < 256
 
 -- every field of a structure fits its bytes
 pub record NarrowStructure (st : Structure) : Type 0 where

@@ -4,7 +4,8 @@ use mathlib.Core.Bool.{Bool, true, cond, _&&_}
 use mathlib.Core.List.{List, [], _∷_, _++_}
 use lib.ListN.{take, drop}
 use lib.Dec.{eqb}
-use Rattle.aspt.specs.Field.{get, Filled, filled, bytesOf}
+use Rattle.le.specs.Le.{Number, bytesOf}
+use Rattle.aspt.specs.Field.{get, filled}
 use Rattle.aspt.specs.Header as header
 use Rattle.aspt.specs.Part as part
 use Rattle.aspt.specs.Rules.{sumOf}
@@ -65,7 +66,7 @@ ownOf st = record {
 }
 
 -- a structure's 20 bytes; its reserved bytes are zero, since a field that the type lacks is 0
-abbrev pub partFields : Structure → List Filled
+abbrev pub partFields : Structure → List Number
 partFields st =
     filled part.kind (st .kind) ∷ filled part.wholeLength 20 ∷ filled part.id (st .id) ∷ filled part.reserved5 0
     ∷ filled part.first (st .first) ∷ filled part.second (st .second) ∷ filled part.third (st .third) ∷ []
@@ -74,15 +75,15 @@ unfoldable pub partBytes : Structure → List ℕ
 partBytes st = bytesOf (partFields (ownOf st))
 
 -- the bytes before the structures: what the table is, with a checksum; who made it; the register space, and how many structures follow
-abbrev pub identityFields : ℕ → List Filled
+abbrev pub identityFields : ℕ → List Number
 identityFields sum = filled header.signature 0x54505341 ∷ filled header.wholeLength 112 ∷ filled header.revision 2 ∷ filled header.checksum sum ∷ []
 
-abbrev pub makerFields : Table → List Filled
+abbrev pub makerFields : Table → List Number
 makerFields t =
     filled header.oemLow (t .«oem_low») ∷ filled header.oemHigh (t .«oem_high») ∷ filled header.oemTable (t .«oem_table») ∷ filled header.oemRevision (t .«oem_revision»)
     ∷ filled header.creator (t .creator) ∷ filled header.creatorRevision (t .«creator_revision») ∷ []
 
-abbrev pub spaceFields : Table → List Filled
+abbrev pub spaceFields : Table → List Number
 spaceFields t = filled header.base (t .base) ∷ filled header.pages (t .pages) ∷ filled header.count 3 ∷ []
 
 -- the 112 bytes, with a checksum

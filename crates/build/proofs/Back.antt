@@ -6,7 +6,8 @@ use Prim.Native.Nat.{ℕ, _+_, _*_, _≤_}
 use native.Mathlib.Omega.{arith}
 use lib.ListN.{length, take, drop, length-drop, take-append-drop}
 use lib.Seq.{drop-drop}
-use Rattle.le.specs.Le.{putBytes}
+use Rattle.le.specs.Le.{putBytes, Bytes}
+use Rattle.le.proofs.Put.{put-front}
 use Rattle.reply.specs.Reply.{Reply, given, then}
 use Rattle.reply.proofs.ReplyLaws.{then-given}
 use Rattle.directory.specs.Directory.{pspKind, entryPlace, directoryOf, directoryByCookie}
@@ -15,10 +16,10 @@ use Rattle.directory.specs.declared.Directory.{Directory}
 use Rattle.directory.proofs.Accept.{cookie-acceptance}
 use Rattle.build.specs.declared.Fields.{Fields}
 use Rattle.build.specs.Write.{directoryBytes, startOf, startedBy, extendOf, extendedBy}
-use Rattle.build.specs.Back.{Bytes, Sized, Each, nothing, entriesOf, Holds, extendAll, buildOf, Buildable, BuildAcceptance, ReadBack, WrittenAgain}
+use Rattle.build.specs.Back.{Sized, Each, nothing, entriesOf, Holds, extendAll, buildOf, Buildable, BuildAcceptance, ReadBack, WrittenAgain}
 use Rattle.build.proofs.Accept.{start-only, start-all}
 use Rattle.build.proofs.Places.{length-directory}
-use Rattle.build.proofs.Grow.{Sound, holds, front, step-only, grown, grows}
+use Rattle.build.proofs.Grow.{Sound, holds, step-only, grown, grows}
 use Rattle.build.proofs.Accepted.{toldIn, length-from, directory-bytes, told-sound}
 
 -- no entries
@@ -27,7 +28,7 @@ empty level either = record { either = either; few = omega arith; sized = nothin
 
 -- what a start leaves
 started-bytes : (level : ℕ) (s : List ℕ) → 16 ≤ length s → putBytes (directoryBytes level []) s 0 ≡ directoryBytes level [] ++ drop 16 s
-started-bytes level s room = front (directoryBytes level []) s 16 (length-directory level []) room
+started-bytes level s room = put-front (directoryBytes level []) s 16 (length-directory level []) room
 
 started : (level : ℕ) (s : List ℕ) (total : ℕ) → startOf level s ≡ given total → Holds level [] (startedBy level s (given total))
 started level s total e =
@@ -37,7 +38,7 @@ started level s total e =
 -- what all extends leave, written at once
 whole-bytes : (level : ℕ) (fs : List Fields) (s : List ℕ) → 16 + length fs * 16 ≤ length s → directoryBytes level fs ++ drop (length fs * 16) (drop 16 s) ≡ putBytes (directoryBytes level fs) s 0
 whole-bytes level fs s room =
-    ap (λ (r : List ℕ). directoryBytes level fs ++ r) (drop-drop (length fs * 16) 16 s) ∙ sym (front (directoryBytes level fs) s (16 + length fs * 16) (length-directory level fs) room)
+    ap (λ (r : List ℕ). directoryBytes level fs ++ r) (drop-drop (length fs * 16) 16 s) ∙ sym (put-front (directoryBytes level fs) s (16 + length fs * 16) (length-directory level fs) room)
 
 -- a build that is accepted
 built-only : (level : ℕ) (fs : List Fields) (s t : List ℕ) → Each Sized fs → buildOf level fs s ≡ given t →
@@ -103,7 +104,7 @@ again s buffer d bytes found = found-at s d found
     let sound = told-sound s bytes level n good either in
     build-all level told buffer (sound .sized)
     (record { either = either; few = sound .few; fits = sound .fits; room = omega arith })
-    ∙ ap given (front (directoryBytes level told) buffer (16 + n * 16) (length-directory level told ∙ ap (λ (k : ℕ). 16 + k * 16) long) room
+    ∙ ap given (put-front (directoryBytes level told) buffer (16 + n * 16) (length-directory level told ∙ ap (λ (k : ℕ). 16 + k * 16) long) room
     ∙ ap (λ (x : List ℕ). x ++ drop (16 + n * 16) buffer) (directory-bytes s bytes level n good)))
 
 pub written-again : WrittenAgain

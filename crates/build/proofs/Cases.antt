@@ -8,14 +8,16 @@ use native.Mathlib.Omega.{arith}
 use borrow.Author.Tests.{lt-leb, le-leb, lt-ltb, le-ltb}
 use lib.ListN.{length, take, drop, length-drop, drop-of-length-le}
 use lib.Seq.{take-all, drop-drop}
-use Rattle.le.specs.Le.{leAt, leBytes, putBytes, putAt}
-use Rattle.le.proofs.Put.{put-some, put-join}
+use Rattle.le.specs.Le.{leAt, leBytes, putBytes, putAt, bytesOf}
+use Rattle.le.proofs.Put.{put-some}
+use Rattle.le.proofs.Numbers.{puts-all}
 use Rattle.fletcher.specs.Fletcher.{wordsAt, sumOf, weightedOf, fletcherOf}
 use Rattle.reply.specs.Reply.{given, refused, alone}
 use Rattle.directory.specs.Directory.{pspKind, cookieOf}
 use Rattle.directory.specs.declared.Directory.{Directory}
 use Rattle.build.specs.declared.Fields.{Fields}
 use Rattle.build.specs.Write.{entryBytes, entriesBytes, directoryBytes, startOf, startedBy, placedIn, roomFor, lengthened, extendedBy}
+use Rattle.build.proofs.Places.{entryNumbers, headNumbers, entry-numbers, length-entryBytes}
 
 module _ (level : ℕ) (s : List ℕ) where
   pub start-below : level < 1 → refused 9 alone ≡ startOf level s
@@ -65,39 +67,24 @@ module _ (f : Fields) (len : ℕ) (d : Directory) where
 
 pub ruleset room-cases = (room-location, room-mode, room-misplaced, room-full, room-short, room-given)
 
--- bytes written at p, behind those at a buffer's start
-next : (us vs s t u : List ℕ) (p : ℕ) → length us ≡ p → p + length vs ≤ length s → t ≡ putBytes us s 0 → u ≡ putBytes vs t p → u ≡ putBytes (us ++ vs) s 0
-next us vs s t u p e h f g =
-    g ∙ ap (λ (x : List ℕ). putBytes vs x p) f ∙ ap (λ (k : ℕ). putBytes vs (putBytes us s 0) k) (sym e ∙ sym (zero-add (length us))) ∙ put-join us vs s 0 (omega arith)
-
 -- a header's four numbers, written in order
 pub header-put : (level cookie : ℕ) (s t u v w : List ℕ) → 1 ≤ level → level ≤ 2 → 16 ≤ length s → cookie ≡ cookieOf pspKind level →
     t ≡ putAt 4 cookie s 0 → u ≡ putAt 4 0xFFFF_FFFF t 4 → v ≡ putAt 4 0 u 8 → w ≡ putAt 4 0 v 12 → w ≡ startedBy level s (startOf level s)
-unfolding leAt leBytes wordsAt sumOf weightedOf fletcherOf entriesBytes directoryBytes
+unfolding leAt leBytes bytesOf wordsAt sumOf weightedOf fletcherOf entriesBytes directoryBytes
 header-put level cookie s t u v w a b h k e1 e2 e3 e4 =
-    let c = leBytes 4 cookie in
-    let two = next c (leBytes 4 0xFFFF_FFFF) s t u 4 refl (omega arith) e1 e2 in
-    let three = next (c ++ leBytes 4 0xFFFF_FFFF) (leBytes 4 0) s u v 8 refl (omega arith) two e3 in
-    let four = next (c ++ leBytes 4 0xFFFF_FFFF ++ leBytes 4 0) (leBytes 4 0) s v w 12 refl (omega arith) three e4 in
-    four ∙ ap (λ (x : ℕ). putBytes (leBytes 4 x ++ leBytes 4 0xFFFF_FFFF ++ leBytes 4 0 ++ leBytes 4 0) s 0) k ∙ ap (startedBy level s) (start-room level s a b h)
+    let written = puts-all (headNumbers cookie 0xFFFF_FFFF 0) s 0 h in
+    let whole : w ≡ putBytes (bytesOf (headNumbers cookie 0xFFFF_FFFF 0)) s 0 = cc in
+    whole ∙ ap (λ (x : ℕ). putBytes (bytesOf (headNumbers x 0xFFFF_FFFF 0)) s 0) k ∙ ap (startedBy level s) (start-room level s a b h)
 
 -- an entry's five numbers, written in order
 pub entry-put : (f : Fields) (s t u v w x : List ℕ) → 16 ≤ length s →
     t ≡ putAt 1 (f .class) s 0 → u ≡ putAt 1 (f .subprogram) t 1 → v ≡ putAt 2 0 u 2 → w ≡ putAt 4 (f .size) v 4 → x ≡ putAt 8 (f .location + f .mode * 2 ^ 62) w 8 →
     x ≡ putBytes (entryBytes f) s 0
-unfolding leBytes entryBytes
+unfolding leBytes bytesOf
 entry-put f s t u v w x h e1 e2 e3 e4 e5 =
-    let a = leBytes 1 (f .class) in
-    let b = a ++ leBytes 1 (f .subprogram) in
-    let c = b ++ leBytes 2 0 in
-    let two = next a (leBytes 1 (f .subprogram)) s t u 1 refl (omega arith) e1 e2 in
-    let three = next b (leBytes 2 0) s u v 2 refl (omega arith) two e3 in
-    let four = next c (leBytes 4 (f .size)) s v w 4 refl (omega arith) three e4 in
-    next (c ++ leBytes 4 (f .size)) (leBytes 8 (f .location + f .mode * 2 ^ 62)) s w x 8 refl (omega arith) four e5
-
-pub length-entryBytes : (f : Fields) → length (entryBytes f) ≡ 16
-unfolding leBytes entryBytes
-length-entryBytes f = refl
+    let written = puts-all (entryNumbers f) s 0 h in
+    let is = entry-numbers f in
+    cc
 
 -- a part to the buffer's end, lent to a writer at its start, is the buffer written in its middle
 part-put : (vs s ys : List ℕ) (at : ℕ) → at + length vs ≤ length s → ys ≡ putBytes vs (take (length s - at) (drop at s)) 0 →

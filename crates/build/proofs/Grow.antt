@@ -7,9 +7,9 @@ use native.Mathlib.Nat.{zero-add}
 use native.Mathlib.Omega.{arith}
 use lib.ListN.{length, getD, drop, length-append, length-drop}
 use lib.Seq.{drop-drop, append-snoc}
-use Rattle.le.specs.Le.{leAt, leBytes, putBytes}
-use Rattle.le.proofs.Put.{put-some}
+use Rattle.le.specs.Le.{leAt, leBytes, bytesOf}
 use Rattle.fletcher.specs.Fletcher.{fletcherOf}
+use Rattle.fletcher.proofs.Laws.{fletcher-small}
 use Rattle.reply.specs.Reply.{Reply, given, then}
 use Rattle.reply.proofs.ReplyLaws.{then-given}
 use Rattle.directory.specs.Directory.{pspKind, cookieOf, directoryOf, directoryByCookie}
@@ -21,9 +21,8 @@ use Rattle.build.specs.declared.Fields.{Fields}
 use Rattle.build.specs.Write.{entryBytes, entriesBytes, summedBytes, directoryBytes, extendOf, extendedBy}
 use Rattle.build.specs.Accept.{Fits}
 use Rattle.build.specs.Back.{Sized, Each, nothing, also, fieldsOf, entriesFrom, Holds, extendAll}
-use Rattle.build.proofs.Cases.{length-entryBytes}
 use Rattle.build.proofs.Accept.{extend-only, extend-all}
-use Rattle.build.proofs.Places.{headed-cookie, headed-sum, headed-total, headed-zero, cookie-small, fletcher-small, directory-headed, length-directory, directory-summed, extended-bytes, entry-behind}
+use Rattle.build.proofs.Places.{length-entryBytes, headNumbers, headed-reads, cookie-small, directory-headed, length-directory, directory-summed, extended-bytes, entry-behind}
 
 -- no entry: what a place past the end of a list of entries counts as
 blank : Fields
@@ -74,12 +73,10 @@ entries-read s d (f ∷ fs) i h =
 
 module _ (level : ℕ) (fs : List Fields) (sound : Sound level fs) (r : List ℕ) where
   at : (i : ℕ) → i < length fs → Stands (getD fs i blank) (directoryBytes level fs ++ r) (16 + i * 16)
-  unfolding leBytes directoryBytes
+  unfolding bytesOf leBytes
   at i h =
-      let c = leBytes 4 (cookieOf pspKind level) in
-      let k = leBytes 4 (fletcherOf (summedBytes fs)) in
-      let shape : directoryBytes level fs ++ r ≡ c ++ k ++ leBytes 4 (length fs) ++ leBytes 4 0 ++ (entriesBytes fs ++ r) = simp append-assoc in
-      rw shape (stands level fs (c ++ k ++ leBytes 4 (length fs) ++ leBytes 4 0) r i 16 refl (sound .sized) (sound .fits) h)
+      rw (directory-headed level fs r)
+      (stands level fs (bytesOf (headNumbers (cookieOf pspKind level) (fletcherOf (summedBytes fs)) (length fs))) r i 16 refl (sound .sized) (sound .fits) h)
 
   pub good : GoodDirectory pspKind 512 (directoryBytes level fs ++ r) (directoryOf 0 level (length fs))
   good =
@@ -89,13 +86,14 @@ module _ (level : ℕ) (fs : List Fields) (sound : Sound level fs) (r : List ℕ
       let few = sound .few in
       let rest = entriesBytes fs ++ r in
       let shape = directory-headed level fs r in
+      let reads = headed-reads c k n rest (cookie-small level) (fletcher-small (summedBytes fs)) (omega arith) in
       record {
-        cookie = rw shape (headed-cookie c k n rest (cookie-small level));
-        total = rw shape (headed-total c k n rest (omega arith));
+        cookie = rw shape (reads .0);
+        total = rw shape (reads .1 .1 .0);
         few = few;
         present = omega (arith, length-append (directoryBytes level fs) r, length-directory level fs);
-        checksum = rw shape (headed-sum c k n rest (fletcher-small (summedBytes fs)) ∙ sym (directory-summed level fs k r));
-        reserved = rw shape (headed-zero c k n rest);
+        checksum = rw shape (reads .1 .0 ∙ sym (directory-summed level fs k r));
+        reserved = rw shape (reads .1 .1 .1 .0);
         entries = λ i h. record {
           reserved = omega (arith, at i h .1);
           placed = λ l e. each-at i (sound .fits) h .placed l (sym (ap (λ (f : Fields). f .class) (at i h .0)) ∙ e);
@@ -107,10 +105,6 @@ module _ (level : ℕ) (fs : List Fields) (sound : Sound level fs) (r : List ℕ
     good = cookie-acceptance .all pspKind 512 (directoryBytes level fs ++ r) (directoryOf 0 level (length fs)) (λ e. omega arith) good (sound .either);
     entries = entries-read (directoryBytes level fs ++ r) (directoryOf 0 level (length fs)) fs 0 (λ j h. ap (λ (k : ℕ). fieldsOf (fieldsAt (directoryBytes level fs ++ r) (16 + k * 16))) (zero-add j) ∙ at j h .0);
   }
-
--- bytes written at a buffer's start
-pub front : (vs s : List ℕ) (n : ℕ) → length vs ≡ n → n ≤ length s → putBytes vs s 0 ≡ vs ++ drop n s
-front vs s n e h = put-some vs s 0 (omega arith) ∙ ap (λ (k : ℕ). vs ++ drop k s) (zero-add (length vs) ∙ e)
 
 -- one entry more
 more-sound : (level : ℕ) (gs : List Fields) (f : Fields) → Sound level gs → length gs < 512 → Sized f → Fits level f → Sound level (gs ++ (f ∷ []))

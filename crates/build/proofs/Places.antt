@@ -5,73 +5,59 @@ use mathlib.Core.Bool.{Bool, true, false, cond}
 use Prim.Native.Nat.{ℕ, _+_, _*_, _-_, _/_, _%_, _^_, _<_, _≤_}
 use native.Mathlib.Omega.{arith}
 use lib.ListN.{length, getD, take, drop, length-append, take-append-drop}
-use lib.Seq.{take-at, drop-at, drop-drop, length-take-le}
+use lib.Seq.{take-at, length-take-le}
 use lib.Dec.{eqb}
-use Rattle.le.specs.Le.{leAt, leBytes, putBytes, putAt}
-use Rattle.le.proofs.Put.{put-some, length-leBytes}
-use Rattle.le.proofs.Back.{le-put-same}
-use Rattle.fletcher.specs.Fletcher.{wordsAt, sumOf, weightedOf, fletcherOf}
+use Rattle.le.specs.Le.{leAt, leBytes, putBytes, putAt, Bytes, Number, bytesOf}
+use Rattle.le.specs.Back.{Held}
+use Rattle.le.proofs.Laws.{byte-le}
+use Rattle.le.proofs.Put.{length-leBytes}
+use Rattle.le.proofs.Back.{put-over}
+use Rattle.le.proofs.Numbers.{held, held-again}
+use Rattle.fletcher.specs.Fletcher.{fletcherOf}
 use Rattle.reply.specs.Reply.{given}
-use Rattle.fletcher.proofs.Laws.{written-small}
 use Rattle.directory.specs.Directory.{pspKind, cookieOf, checksumAt}
 use Rattle.directory.specs.Entry.{fieldsAt}
 use Rattle.build.specs.declared.Fields.{Fields}
 use Rattle.build.specs.Write.{entryBytes, entriesBytes, summedBytes, directoryBytes, lengthened, extendedBy}
 use Rattle.build.specs.Back.{Sized, fieldsOf}
-use Rattle.build.proofs.Cases.{length-entryBytes}
 
--- bytes written over as many, behind p
-pub put-over : (vs us p q : List ℕ) (o : ℕ) → length p ≡ o → length us ≡ length vs → putBytes vs (p ++ (us ++ q)) o ≡ p ++ (vs ++ q)
-put-over vs us p q o e l =
-    let long : length (p ++ (us ++ q)) ≡ o + (length vs + length q) = length-append p (us ++ q) ∙ omega (arith, length-append us q) in
-    let behind : drop (o + length vs) (p ++ (us ++ q)) ≡ q =
-    sym (drop-drop (length vs) o (p ++ (us ++ q))) ∙ ap (drop (length vs)) (drop-at p (us ++ q) o e) ∙ drop-at us q (length vs) l in
-    put-some vs (p ++ (us ++ q)) o (omega arith) ∙ rw (take-at p (us ++ q) o e, behind, append-assoc p vs q)
+-- the numbers of an entry, and of a directory's first sixteen bytes
+abbrev pub entryNumbers : Fields → List Number
+entryNumbers f =
+    record { bytes = 1; value = f .class } ∷ record { bytes = 1; value = f .subprogram } ∷ record { bytes = 2; value = 0 } ∷ record { bytes = 4; value = f .size }
+    ∷ record { bytes = 8; value = f .location + f .mode * 2 ^ 62 } ∷ []
 
--- a number behind p reads as it was written
-pub le-behind : (n v : ℕ) (p q : List ℕ) (o : ℕ) → length p ≡ o → v < 256 ^ n → leAt n (p ++ (leBytes n v ++ q)) o ≡ v
-le-behind n v p q o e b =
-    let x = p ++ (leBytes n v ++ q) in
-    let long : length x ≡ o + (n + length q) = length-append p (leBytes n v ++ q) ∙ omega (arith, length-append (leBytes n v) q, length-leBytes n v) in
-    ap (λ (y : List ℕ). leAt n y o) (sym (put-over (leBytes n v) (leBytes n v) p q o e refl)) ∙ le-put-same n v x o (omega arith) b
+abbrev pub headNumbers : ℕ → ℕ → ℕ → List Number
+headNumbers cookie sum total =
+    record { bytes = 4; value = cookie } ∷ record { bytes = 4; value = sum } ∷ record { bytes = 4; value = total } ∷ record { bytes = 4; value = 0 } ∷ []
+
+pub entry-numbers : (f : Fields) → entryBytes f ≡ bytesOf (entryNumbers f)
+unfolding entryBytes bytesOf leBytes
+entry-numbers f = refl
+
+pub length-entryBytes : (f : Fields) → length (entryBytes f) ≡ 16
+unfolding entryBytes leBytes
+length-entryBytes f = refl
 
 -- a directory's first sixteen bytes, with any numbers, and what stands behind them
 abbrev pub headed : ℕ → ℕ → ℕ → List ℕ → List ℕ
-headed cookie sum total rest = leBytes 4 cookie ++ (leBytes 4 sum ++ (leBytes 4 total ++ (leBytes 4 0 ++ rest)))
+headed cookie sum total rest = bytesOf (headNumbers cookie sum total) ++ rest
 
 module _ (cookie sum total : ℕ) (rest : List ℕ) where
-  -- with what is behind the checksum, and behind the total, taken together
-  at-total : headed cookie sum total rest ≡ leBytes 4 cookie ++ leBytes 4 sum ++ (leBytes 4 total ++ (leBytes 4 0 ++ rest))
-  at-total = simp append-assoc
-
-  at-zero : headed cookie sum total rest ≡ leBytes 4 cookie ++ leBytes 4 sum ++ leBytes 4 total ++ (leBytes 4 0 ++ rest)
-  at-zero = simp append-assoc
-
-  pub headed-cookie : cookie < 2 ^ 32 → leAt 4 (headed cookie sum total rest) 0 ≡ cookie
-  headed-cookie b = le-behind 4 cookie [] _ 0 refl b
-
-  pub headed-sum : sum < 2 ^ 32 → leAt 4 (headed cookie sum total rest) 4 ≡ sum
-  headed-sum b = le-behind 4 sum (leBytes 4 cookie) _ 4 (length-leBytes 4 cookie) b
-
-  pub headed-total : total < 2 ^ 32 → leAt 4 (headed cookie sum total rest) 8 ≡ total
-  unfolding leBytes
-  headed-total b = rw at-total (le-behind 4 total (leBytes 4 cookie ++ leBytes 4 sum) _ 8 refl b)
-
-  pub headed-zero : leAt 4 (headed cookie sum total rest) 12 ≡ 0
-  unfolding leBytes
-  headed-zero = rw at-zero (le-behind 4 0 (leBytes 4 cookie ++ leBytes 4 sum ++ leBytes 4 total) _ 12 refl (omega arith))
+  pub headed-reads : cookie < 2 ^ 32 → sum < 2 ^ 32 → total < 2 ^ 32 → Held (headNumbers cookie sum total) (headed cookie sum total rest) 0
+  headed-reads c k n = held (headNumbers cookie sum total) (headed cookie sum total rest) [] rest 0 refl refl (c, (k, (n, (omega arith, tt))))
 
   pub headed-summed : drop 8 (headed cookie sum total rest) ≡ leBytes 4 total ++ (leBytes 4 0 ++ rest)
-  unfolding leBytes
+  unfolding bytesOf leBytes
   headed-summed = refl
 
   pub put-total : (n : ℕ) → putAt 4 n (headed cookie sum total rest) 8 ≡ headed cookie sum n rest
-  unfolding leBytes
-  put-total n = rw at-total (put-over (leBytes 4 n) (leBytes 4 total) (leBytes 4 cookie ++ leBytes 4 sum) _ 8 refl refl ∙ simp append-assoc)
+  unfolding bytesOf leBytes
+  put-total n = put-over (headed cookie sum total rest) (leBytes 4 cookie ++ leBytes 4 sum) (leBytes 4 0 ++ rest) 8 refl (leBytes 4 n) (leBytes 4 total) refl refl
 
   pub put-sum : (k : ℕ) → putAt 4 k (headed cookie sum total rest) 4 ≡ headed cookie k total rest
-  unfolding leBytes
-  put-sum k = put-over (leBytes 4 k) (leBytes 4 sum) (leBytes 4 cookie) _ 4 refl refl
+  unfolding bytesOf leBytes
+  put-sum k = put-over (headed cookie sum total rest) (leBytes 4 cookie) (leBytes 4 total ++ (leBytes 4 0 ++ rest)) 4 refl (leBytes 4 k) (leBytes 4 sum) refl refl
 
 pub cookie-small : (level : ℕ) → cookieOf pspKind level < 2 ^ 32
 cookie-small level = by (eqb level 1)
@@ -79,12 +65,6 @@ cookie-small level = by (eqb level 1)
     by : (b : Bool) → cond b 0x5053_5024 0x324C_5024 < 2 ^ 32
     by true = omega arith
     by false = omega arith
-
-pub fletcher-small : (s : List ℕ) → fletcherOf s < 2 ^ 32
-unfolding fletcherOf
-fletcher-small s =
-    let ws = wordsAt (length s / 2) s 0 in
-    omega (arith, written-small (weightedOf ws), written-small (sumOf ws))
 
 pub length-entries : (fs : List Fields) → length (entriesBytes fs) ≡ length fs * 16
 unfolding entriesBytes
@@ -104,8 +84,8 @@ entries-last gs f r =
 -- a directory's bytes, and what stands behind them
 pub directory-headed : (level : ℕ) (fs : List Fields) (r : List ℕ) →
     directoryBytes level fs ++ r ≡ headed (cookieOf pspKind level) (fletcherOf (summedBytes fs)) (length fs) (entriesBytes fs ++ r)
-unfolding directoryBytes
-directory-headed level fs r = simp append-assoc
+unfolding directoryBytes bytesOf leBytes
+directory-headed level fs r = refl
 
 pub length-directory : (level : ℕ) (fs : List Fields) → length (directoryBytes level fs) ≡ 16 + length fs * 16
 unfolding directoryBytes
@@ -131,8 +111,8 @@ extended-bytes level gs f r h =
     let long : length fs ≡ n = length-append gs (f ∷ []) in
     let place : 16 + (n - 1) * 16 ≡ 16 + length gs * 16 = omega arith in
     let entry : putBytes (entryBytes f) (d ++ r) (16 + (n - 1) * 16) ≡ d ++ (entryBytes f ++ drop 16 r) =
-    ap (λ (x : List ℕ). putBytes (entryBytes f) (d ++ x) (16 + (n - 1) * 16)) (sym (take-append-drop 16 r))
-    ∙ put-over (entryBytes f) (take 16 r) d (drop 16 r) (16 + (n - 1) * 16) (length-directory level gs ∙ sym place) (length-take-le 16 r h ∙ sym (length-entryBytes f)) in
+    put-over (d ++ r) d (drop 16 r) (16 + (n - 1) * 16) (length-directory level gs ∙ sym place) (entryBytes f) (take 16 r) (ap (λ (x : List ℕ). d ++ x) (sym (take-append-drop 16 r)))
+    (length-take-le 16 r h ∙ sym (length-entryBytes f)) in
     let rest : entriesBytes gs ++ (entryBytes f ++ drop 16 r) ≡ entriesBytes fs ++ drop 16 r = entries-last gs f (drop 16 r) in
     let whole : lengthened f (d ++ r) n ≡ headed c k (length fs) (entriesBytes fs ++ drop 16 r) =
     ap (λ (x : List ℕ). putAt 4 n x 8) (entry ∙ directory-headed level gs (entryBytes f ++ drop 16 r)) ∙ put-total c k (length gs) (entriesBytes gs ++ (entryBytes f ++ drop 16 r)) n
@@ -142,35 +122,27 @@ extended-bytes level gs f r h =
     ∙ put-sum c k (length fs) (entriesBytes fs ++ drop 16 r) _ ∙ ap (λ (x : ℕ). headed c x (length fs) (entriesBytes fs ++ drop 16 r)) (directory-summed level fs k (drop 16 r))
     ∙ sym (directory-headed level fs (drop 16 r))
 
--- a number inside x, which stands behind p
-inside : (n v : ℕ) (u w p q x : List ℕ) (e k : ℕ) → length p ≡ e → length u ≡ k → v < 256 ^ n → x ≡ u ++ (leBytes n v ++ w) → leAt n (p ++ (x ++ q)) (e + k) ≡ v
-inside n v u w p q x e k at within small shape =
-    let whole : p ++ (x ++ q) ≡ p ++ u ++ (leBytes n v ++ (w ++ q)) = ap (λ (y : List ℕ). p ++ (y ++ q)) shape ∙ simp append-assoc in
-    rw whole (le-behind n v (p ++ u) (w ++ q) (e + k) (length-append p u ∙ omega arith) small)
-
-pub byte-le : (s : List ℕ) (o : ℕ) → getD s o 0 ≡ leAt 1 s o
-unfolding leAt
-byte-le s o = omega arith
-
 -- an entry behind p reads as it was written, and its reserved bits are zero
 pub entry-behind : (f : Fields) (p q : List ℕ) (e : ℕ) → length p ≡ e → Sized f → f .location < 2 ^ 62 → f .mode ≤ 3 →
     (fieldsOf (fieldsAt (p ++ (entryBytes f ++ q)) e) ≡ f) × (leAt 2 (p ++ (entryBytes f ++ q)) (e + 2) ≡ 0)
-unfolding leBytes entryBytes
 entry-behind f p q e at sized location mode =
     let s = p ++ (entryBytes f ++ q) in
-    let v = f .location + f .mode * 2 ^ 62 in
-    let a = leBytes 1 (f .class) in
-    let b = leBytes 1 (f .subprogram) in
-    let c = leBytes 4 (f .size) in
-    let zero-more : e + 0 ≡ e = omega arith in
-    let class : getD s e 0 ≡ f .class =
-    byte-le s e ∙ ap (leAt 1 s) (sym zero-more) ∙ inside 1 (f .class) [] (b ++ leBytes 2 0 ++ c ++ leBytes 8 v) p q (entryBytes f) e 0 at refl (sized .class) refl in
-    let subprogram : getD s (e + 1) 0 ≡ f .subprogram =
-    byte-le s (e + 1) ∙ inside 1 (f .subprogram) a (leBytes 2 0 ++ c ++ leBytes 8 v) p q (entryBytes f) e 1 at refl (sized .subprogram) refl in
-    let size : leAt 4 s (e + 4) ≡ f .size = inside 4 (f .size) (a ++ b ++ leBytes 2 0) (leBytes 8 v) p q (entryBytes f) e 4 at refl (sized .size) refl in
-    let word : leAt 8 s (e + 8) ≡ v = inside 8 v (a ++ b ++ leBytes 2 0 ++ c) [] p q (entryBytes f) e 8 at refl (omega arith) refl in
+    let h = held (entryNumbers f) s p q e (ap (λ (x : List ℕ). p ++ (x ++ q)) (entry-numbers f)) at (sized .class, (sized .subprogram, (omega arith, (sized .size, (omega arith, tt))))) in
+    let class : getD s e 0 ≡ f .class = byte-le s e ∙ h .0 in
+    let subprogram : getD s (e + 1) 0 ≡ f .subprogram = byte-le s (e + 1) ∙ h .1 .0 in
+    let size : leAt 4 s (e + 4) ≡ f .size = ap (leAt 4 s) (omega arith) ∙ h .1 .1 .1 .0 in
+    let word : leAt 8 s (e + 8) ≡ f .location + f .mode * 2 ^ 62 = ap (leAt 8 s) (omega arith) ∙ h .1 .1 .1 .1 .0 in
     let low : leAt 8 s (e + 8) % 0x4000_0000_0000_0000 ≡ f .location = omega arith in
-    let high : leAt 8 s (e + 8) / 0x4000_0000_0000_0000 ≡ f .mode = omega arith in (
-      λ j. record { class = class j; subprogram = subprogram j; size = size j; location = low j; mode = high j },
-      inside 2 0 (a ++ b) (c ++ leBytes 8 v) p q (entryBytes f) e 2 at refl (omega arith) refl,
-    )
+    let high : leAt 8 s (e + 8) / 0x4000_0000_0000_0000 ≡ f .mode = omega arith in
+    (λ j. record { class = class j; subprogram = subprogram j; size = size j; location = low j; mode = high j }, ap (leAt 2 s) (omega arith) ∙ h .1 .1 .0)
+
+-- in bytes, an entry that was read, with its reserved bits zero, is written again
+pub entry-again : (s : List ℕ) → Bytes s → (e : ℕ) → e + 16 ≤ length s → leAt 2 s (e + 2) ≡ 0 → entryBytes (fieldsOf (fieldsAt s e)) ≡ take 16 (drop e s)
+unfolding bytesOf leBytes
+entry-again s bytes e h zeros =
+    let two : e + 1 + 1 ≡ e + 2 = omega arith in
+    let size : leAt 4 s (e + 1 + 1 + 2) ≡ leAt 4 s (e + 4) = ap (leAt 4 s) (omega arith) in
+    let eight : leAt 8 s (e + 1 + 1 + 2 + 4) ≡ leAt 8 s (e + 8) = ap (leAt 8 s) (omega arith) in
+    let word : leAt 8 s (e + 8) ≡ leAt 8 s (e + 8) % 2 ^ 62 + leAt 8 s (e + 8) / 2 ^ 62 * 2 ^ 62 = omega arith in
+    entry-numbers (fieldsOf (fieldsAt s e))
+    ∙ held-again (entryNumbers (fieldsOf (fieldsAt s e))) s e bytes h (sym (byte-le s e), (sym (byte-le s (e + 1)), (ap (leAt 2 s) two ∙ zeros, (size, (eight ∙ word, tt)))))

@@ -3,8 +3,8 @@ use Prim.Native.Nat.{ℕ, zero, suc, _+_, _*_, _^_, _<_, _≤_}
 use mathlib.Core.Path.{_≡_}
 use mathlib.Core.Logic.{_⊎_}
 use mathlib.Core.List.{List, [], _∷_, _++_}
-use lib.ListN.{length, getD, take, drop}
-use Rattle.le.specs.Le.{putBytes}
+use lib.ListN.{length, take, drop}
+use Rattle.le.specs.Le.{putBytes, Bytes}
 use Rattle.reply.specs.Reply.{Reply, given, then}
 use Rattle.directory.specs.Directory.{pspKind, entryPlace, directoryOf, directoryByCookie}
 use Rattle.directory.specs.Entry.{entryOf}
@@ -13,10 +13,6 @@ use Rattle.directory.specs.declared.Entry.{Entry}
 use Rattle.build.specs.declared.Fields.{Fields}
 use Rattle.build.specs.Accept.{Fits}
 use Rattle.build.specs.Write.{directoryBytes, startOf, startedBy, extendOf, extendedBy}
-
--- s holds bytes, as every lent slice does
-abbrev pub Bytes : List ℕ → Type 0
-Bytes s = (j : ℕ) → getD s j 0 < 256
 
 -- the numbers have their widths, as in every value of the code; location and mode are checked
 pub record Sized (f : Fields) : Type 0 where

@@ -11,6 +11,7 @@ use lib.Dec.{ltb, eqb}
 use mathlib.Core.Bool.{not, cond}
 use Rattle.le.specs.Le.{leAt}
 use Rattle.le.proofs.Laws.{le-same}
+use Rattle.le.proofs.Part.{part-same}
 use Rattle.reply.specs.Reply.{Reply, given, refused, alone, check, then}
 use Rattle.reply.proofs.ReplyLaws.{check-same, then-same}
 use Rattle.reply.proofs.ScanLaws.{scan-same}
@@ -22,13 +23,6 @@ use Rattle.directory.specs.declared.Kind.{Kind}
 use Rattle.directory.specs.declared.Directory.{Directory}
 use Rattle.directory.specs.declared.Entry.{Entry}
 use Rattle.directory.specs.declared.Part.{Part}
-
--- a part depends on its own bytes alone
-part-same : (c a : ℕ) (s t : List ℕ) → length s ≡ length t → ((j : ℕ) → a ≤ j → j < a + c → getD s j 0 ≡ getD t j 0) → take c (drop a s) ≡ take c (drop a t)
-part-same c a s t len h =
-    ext-getD 0 (take c (drop a s)) (take c (drop a t)) (simp (length-take, length-drop, len))
-    (λ i l. let b : i < min c (length s - a) = rw (length-take, length-drop) at l in
-    getD-take c (drop a s) i 0 (omega arith) ∙ getD-drop a s i 0 ∙ h (a + i) (omega arith) (omega arith) ∙ sym (getD-take c (drop a t) i 0 (omega arith) ∙ getD-drop a t i 0))
 
 -- images that agree from o to the end of n entries
 module _ (kind : Kind) (s t : List ℕ) (o n : ℕ) (wide : 16 ≤ kind .entry) (agree : Agree s t o (entryPlace kind o n)) where

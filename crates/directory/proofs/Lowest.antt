@@ -1,71 +1,28 @@
 -- A search among a directory's entries gives the lowest that fits, or that none does. Assumes nothing.
 use mathlib.Core.Path.{_≡_, refl, sym, ap, _∙_}
 use mathlib.Core.List.{List}
-use mathlib.Core.Bool.{Bool, true, false, _&&_, cond}
-use Prim.Native.Nat.{ℕ, _+_, _<_, _≤_}
+use mathlib.Core.Bool.{true, and-eq-true-iff}
+use Prim.Native.Nat.{ℕ, _+_}
 use native.Mathlib.Omega.{arith}
-use borrow.Author.Tests.{eqb-true, eqb-false, eq-eqb}
+use borrow.Author.Tests.{eqb-true, eq-eqb}
 use lib.Dec.{eqb}
-use Rattle.reply.specs.Reply.{Reply, Carried, given, refused, alone, tested}
-use Rattle.reply.specs.Scan.{scan}
+use Rattle.reply.specs.Reply.{Carried, given, refused, alone, tested}
+use Rattle.reply.specs.Scan.{Lowest, None}
 use Rattle.reply.proofs.ReplyLaws.{clash}
-use Rattle.reply.proofs.ScanLaws.{First, hit, miss, first, scan-hit, scan-miss}
+use Rattle.reply.proofs.Lowest.{Searched, lowest, none, Decided, lowest-found, none-found, searched}
 use Rattle.directory.specs.Entry.{entryOf, leadIn, matchOf, findIn, foundAt, nowhere}
-use Rattle.directory.specs.Good.{Lowest, None, Leads, Matches, LowestLead, LowestMatch}
+use Rattle.directory.specs.Good.{Leads, Matches, LowestLead, LowestMatch}
 use Rattle.directory.specs.declared.Kind.{Kind}
 use Rattle.directory.specs.declared.Directory.{Directory}
 use Rattle.directory.specs.declared.Entry.{Entry}
 use Rattle.directory.specs.declared.Match.{Match}
-
--- true is not false
-apart : {A : Type 0} {b : Bool} → b ≡ true → b ≡ false → A
-apart t f = absurd (let z : _≡_ {A = ℕ} 0 1 = cc in let n : ⊥ = omega arith in n)
-
--- how a search for the lowest index below n of which P holds ends
-pub data Searched {A : Type 0} (P : ℕ → Type 0) (found last : ℕ → A) (n : ℕ) (answer : A) : Type 0 where
-  lowest : (i : ℕ) → Lowest P n i → answer ≡ found i → Searched P found last n answer
-  none : None P n → answer ≡ last n → Searched P found last n answer
-
--- a test that says whether P holds
-pub record Decided (P : ℕ → Type 0) : Type 0 where
-  pub test : ℕ → Bool
-  pub says : (i : ℕ) → P i → test i ≡ true
-  pub holds : (i : ℕ) → test i ≡ true → P i
-
-module _ {A : Type 0} (P : ℕ → Type 0) (by-test : Decided P) (found last : ℕ → A) (n : ℕ) where
-  fails : (i : ℕ) → by-test .test i ≡ false → P i → ⊥
-  fails i f p = apart (by-test .says i p) f
-
-  fails-test : (i : ℕ) → (P i → ⊥) → by-test .test i ≡ false
-  fails-test i f = by (by-test .test i) refl
-    where
-      by : (b : Bool) → by-test .test i ≡ b → b ≡ false
-      by true q = absurd (f (by-test .holds i q))
-      by false q = refl
-
-  pub lowest-found : (i : ℕ) → Lowest P n i → scan (λ i rest. cond (by-test .test i) (found i) rest) last n 0 ≡ found i
-  lowest-found i l = scan-hit (by-test .test) found last n 0 i (omega arith) (let b = l .inside in omega arith) (by-test .says i (l .here)) (λ j a b. fails-test j (l .earlier j b))
-
-  pub none-found : None P n → scan (λ i rest. cond (by-test .test i) (found i) rest) last n 0 ≡ last n
-  none-found f = scan-miss (by-test .test) found last n 0 n (omega arith) (λ j a b. fails-test j (f j b))
-
-  pub searched : Searched P found last n (scan (λ i rest. cond (by-test .test i) (found i) rest) last n 0)
-  searched = by (first (by-test .test) n 0 n (omega arith))
-    where
-      by : First (by-test .test) 0 n → Searched P found last n (scan (λ i rest. cond (by-test .test i) (found i) rest) last n 0)
-      by (hit i a b t f) = let l : Lowest P n i = record { inside = b; here = by-test .holds i t; earlier = λ j x. fails j (f j (omega arith) x) } in lowest i l (lowest-found i l)
-      by (miss f) = let e : None P n = λ j x. fails j (f j (omega arith) x) in none e (none-found e)
 
 -- the test of a match, as a fact and back
 pub match-says : (e : Entry) (type sub : ℕ) → (e .class ≡ type) × (e .subprogram ≡ sub) → matchOf e type sub ≡ true
 match-says e type sub m = rw (eq-eqb _ _ (m .0), eq-eqb _ _ (m .1))
 
 pub match-holds : (e : Entry) (type sub : ℕ) → matchOf e type sub ≡ true → (e .class ≡ type) × (e .subprogram ≡ sub)
-match-holds e type sub h = by (eqb (e .class) type) refl h
-  where
-    by : (b : Bool) → eqb (e .class) type ≡ b → b && eqb (e .subprogram) sub ≡ true → (e .class ≡ type) × (e .subprogram ≡ sub)
-    by true q h = (eqb-true _ _ q, eqb-true _ _ h)
-    by false q h = apart h refl
+match-holds e type sub h = let g = and-eq-true-iff (eqb (e .class) type) _ .0 h in (eqb-true _ _ (g .0), eqb-true _ _ (g .1))
 
 abbrev leads-test : (kind : Kind) (s : List ℕ) (d : Directory) → Decided (Leads kind s d)
 leads-test kind s d = record { test = λ i. eqb (entryOf kind s d i .class) (kind .lead); says = λ i. eq-eqb _ _; holds = λ i. eqb-true _ _ }

@@ -8,10 +8,12 @@ use native.Mathlib.Omega.{arith}
 use borrow.Author.Tests.{leb-true, eqb-true, eqb-false, not-true, le-leb, eq-eqb, ne-eqb}
 use lib.ListN.{length, getD}
 use lib.Dec.{leb, eqb}
-use Rattle.le.specs.Le.{leAt}
+use Rattle.le.specs.Le.{Bytes}
+use Rattle.le.proofs.Laws.{le-small}
 use Rattle.reply.specs.Reply.{Reply, given, then}
-use Rattle.reply.proofs.ReplyLaws.{past, passed, then-given}
+use Rattle.reply.proofs.ReplyLaws.{past, passed, then-given, either}
 use Rattle.window.specs.Window.{offsetIn}
+use Rattle.window.proofs.Inside.{offset-fact, offset-given}
 use Rattle.directory.specs.Entry.{fieldsAt, entryOf, entryIn}
 use Rattle.directory.specs.Part.{within, leadsTo, rangedAt, partOf, partIn}
 use Rattle.directory.specs.Good.{BeginsAt, physical, flash, counted, GoodPart, PartAcceptance}
@@ -27,37 +29,27 @@ within-given : (s : List ℕ) (x p : ℕ) → x ≡ p → p ≤ length s → wit
 unfolding within
 within-given s x p q h = passed _ _ _ _ (le-leb x (length s) (omega arith)) ∙ ap given q
 
--- one of two, by a test
-either : {A C : Type 0} {a : A} (b : Bool) (x y : Reply A) → cond b x y ≡ given a → (b ≡ true → x ≡ given a → C) → (b ≡ false → y ≡ given a → C) → C
-either true x y e f g = f refl e
-either false x y e f g = g refl e
-
 module _ (window : ℕ) (s : List ℕ) (o : ℕ) (e : Entry) (p : ℕ) where
   pub lead-fact : e .mode ≤ 3 → leadsTo window s o e ≡ given p → BeginsAt window o e p × (p ≤ length s)
-  unfolding leadsTo offsetIn
+  unfolding leadsTo
   lead-fact m h =
       let g = past (not (eqb (e .mode) 3)) _ _ _ h in
       let three : e .mode ≡ 3 → ⊥ = eqb-false (e .mode) 3 (not-true _ (g .0)) in
       either (eqb (e .mode) 0) _ _ (g .1)
       (λ b x.
       let t = then-given (offsetIn window (e .location)) (λ a. within s (a .0)) x in
-      let h1 = past (leb (0x1_0000_0000 - window) (e .location)) _ _ _ (t .1) in
-      let h2 = past (leb (e .location) 0xFFFF_FFFF) _ _ _ (h1 .1) in
-      let l : 0x1_0000_0000 - window ≤ e .location = leb-true _ _ (h1 .0) in
-      let u : e .location ≤ 0xFFFF_FFFF = leb-true _ _ (h2 .0) in
-      let q : e .location - (0x1_0000_0000 - window) ≡ t .0 .0 = cc (h2 .1) in
+      let f = offset-fact window (e .location) (t .0) (t .1) in
       let w = within-fact s (t .0 .0) p (t .2) in
-      (physical (eqb-true _ _ b) (let v = w .0 in omega arith) u, w .1))
+      (physical (eqb-true _ _ b) (omega (arith, f .0, f .2, w .0)) (f .1), w .1))
       (λ b y. let zero : e .mode ≡ 0 → ⊥ = eqb-false _ _ b in
       either (eqb (e .mode) 1) _ _ y
       (λ d x. let w = within-fact s (e .location) p x in (flash (eqb-true _ _ d) (w .0), w .1))
       (λ d x. let one : e .mode ≡ 1 → ⊥ = eqb-false _ _ d in let w = within-fact s (o + e .location) p x in (counted (omega arith) (w .0), w .1)))
 
   pub lead-given : BeginsAt window o e p → p ≤ length s → leadsTo window s o e ≡ given p
-  unfolding leadsTo offsetIn
+  unfolding leadsTo
   lead-given (physical m l u) b =
-      let q : e .location - (0x1_0000_0000 - window) ≡ p = omega arith in
-      simp (m, le-leb (0x1_0000_0000 - window) (e .location) (omega arith), le-leb (e .location) 0xFFFF_FFFF u) (within-given s _ p q b)
+      simp (m, offset-given window (e .location) p (omega arith) u (omega arith)) (within-given s p p refl b)
   lead-given (flash m l) b = simp m (within-given s _ p l b)
   lead-given (counted m l) b = simp m (within-given s _ p l b)
 
@@ -95,14 +87,8 @@ module _ (kind : Kind) (window : ℕ) (s : List ℕ) where
   all-part : (d : Directory) (i : ℕ) (p : Part) → i < d .total → GoodPart kind window s (d .place .0) (entryOf kind s d i) p → partIn kind window s d i ≡ given p
   all-part d i p h g = ap (λ (r : Reply Entry). then r (partOf kind window s (d .place .0))) (all-entry kind s d i h) ∙ part-given (d .place .0) (entryOf kind s d i) p g
 
--- a number of n bytes
-small : (s : List ℕ) → ((j : ℕ) → getD s j 0 < 256) → (n o : ℕ) → leAt n s o < 256 ^ n
-unfolding leAt
-small s b zero o = omega arith
-small s b (suc n) o = omega (arith, pow-suc 256 n, b o, small s b n (o + 1))
-
-two-bits : (s : List ℕ) (e : ℕ) → ((j : ℕ) → getD s j 0 < 256) → fieldsAt s e .mode ≤ 3
-two-bits s e b = omega (arith, small s b 8 (e + 8))
+two-bits : (s : List ℕ) (e : ℕ) → Bytes s → fieldsAt s e .mode ≤ 3
+two-bits s e bytes = omega (arith, le-small s bytes 8 (e + 8))
 
 pub part-acceptance : PartAcceptance
 part-acceptance = record { only = only-part; all = all-part; two-bits = two-bits }

@@ -4,8 +4,9 @@ use mathlib.Core.Path.{_≡_}
 use mathlib.Core.Logic.{_⊎_}
 use mathlib.Core.List.{List}
 use lib.ListN.{length, getD}
-use Rattle.le.specs.Le.{leAt}
+use Rattle.le.specs.Le.{leAt, Bytes}
 use Rattle.reply.specs.Reply.{Carried, given, refused, alone, tested, OneToOne}
+use Rattle.reply.specs.Scan.{Lowest, None}
 use Rattle.directory.specs.Directory.{cookieOf, totalAt, entryPlace, checksumAt, directoryAt, directoryByCookie, toldDirectory}
 use Rattle.directory.specs.Entry.{fieldsAt, entryOf, entryIn, leadIn, findIn, toldEntry, toldLookup}
 use Rattle.directory.specs.Part.{partOf, partIn, toldPlace, toldPart}
@@ -57,16 +58,6 @@ pub record EntryAcceptance : Type 0 where
   pub all : (kind : Kind) (image : List ℕ) (d : Directory) (i : ℕ) → i < d .total → entryIn kind image d i ≡ given (entryOf kind image d i)
   pub behind : (kind : Kind) (image : List ℕ) (d : Directory) (i : ℕ) → d .total ≤ i → entryIn kind image d i ≡ refused 8 alone
 
--- i is the lowest index below n of which P holds
-pub record Lowest (P : ℕ → Type 0) (n i : ℕ) : Type 0 where
-  pub inside : i < n
-  pub here : P i
-  pub earlier : (j : ℕ) → j < i → P j → ⊥
-
--- P holds of no index below n
-abbrev pub None : (ℕ → Type 0) → ℕ → Type 0
-None P n = (j : ℕ) → j < n → P j → ⊥
-
 -- entry i leads to level two
 abbrev pub Leads : Kind → List ℕ → Directory → ℕ → Type 0
 Leads kind image d i = entryOf kind image d i .class ≡ kind .lead
@@ -113,4 +104,4 @@ pub record PartAcceptance : Type 0 where
       (i < d .total) × GoodPart kind window image (d .place .0) (entryOf kind image d i) p
   pub all : (kind : Kind) (window : ℕ) (image : List ℕ) (d : Directory) (i : ℕ) (p : Part) → i < d .total → GoodPart kind window image (d .place .0) (entryOf kind image d i) p →
       partIn kind window image d i ≡ given p
-  pub two-bits : (image : List ℕ) (e : ℕ) → ((j : ℕ) → getD image j 0 < 256) → fieldsAt image e .mode ≤ 3
+  pub two-bits : (image : List ℕ) (e : ℕ) → Bytes image → fieldsAt image e .mode ≤ 3

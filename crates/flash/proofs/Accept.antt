@@ -2,27 +2,29 @@
 use mathlib.Core.Path.{_≡_, refl, sym, ap, subst, _∙_}
 use mathlib.Core.Logic.{_⊎_, inl, inr}
 use mathlib.Core.List.{List}
-use mathlib.Core.Bool.{Bool, true, false, not, _&&_, _||_, cond}
+use mathlib.Core.Bool.{Bool, true, false, not, _&&_, _||_, cond, and-eq-true-iff}
 use Prim.Native.Nat.{ℕ, _+_, _-_, _<_, _≤_}
 use native.Mathlib.Omega.{arith}
 use borrow.Author.Tests.{leb-true, leb-false, ltb-true, eqb-true, eqb-false, not-true, le-leb, lt-leb, lt-ltb, eq-eqb}
 use lib.ListN.{length, getD}
 use lib.Dec.{leb, ltb, eqb}
-use Rattle.le.specs.Le.{leAt}
+use Rattle.le.specs.Le.{leAt, Bytes}
 use Rattle.reply.specs.Reply.{Reply, given, refused, alone, check, then}
-use Rattle.reply.specs.Scan.{scan}
-use Rattle.reply.proofs.ReplyLaws.{past, passed, clash, then-given}
+use Rattle.reply.specs.Scan.{scan, Lowest}
+use Rattle.reply.proofs.ReplyLaws.{past, clash, then-given, apart, either}
 use Rattle.reply.proofs.ScanLaws.{scan-same}
+use Rattle.reply.proofs.Lowest.{Searched, lowest, none, Decided, searched, lowest-found}
 use Rattle.window.specs.Window.{offsetIn}
+use Rattle.window.proofs.Inside.{offset-fact, offset-given}
 use Rattle.window.specs.declared.Offset.{Offset}
 use Rattle.directory.specs.Directory.{directoryAt}
 use Rattle.directory.specs.Entry.{entryOf, leadIn}
 use Rattle.directory.specs.Part.{leadsTo}
-use Rattle.directory.specs.Good.{Lowest, None, Leads, BeginsAt, GoodDirectory}
+use Rattle.directory.specs.Good.{Leads, BeginsAt, GoodDirectory}
 use Rattle.directory.specs.declared.Directory.{Directory}
 use Rattle.directory.specs.declared.Entry.{Entry}
 use Rattle.directory.proofs.Accept.{acceptance}
-use Rattle.directory.proofs.Lowest.{Searched, lowest, none, Decided, searched, lowest-found, lowest-lead}
+use Rattle.directory.proofs.Lowest.{lowest-lead}
 use Rattle.directory.proofs.PartAccept.{lead-fact, lead-given, part-acceptance}
 use Rattle.flash.specs.Efs.{counts, candidateAt, orElse, efsStep, efsOf, efsAt, efsIn, absent, inImage, pointerTo, pointerFrom, pointerOf, pointerIn}
 use Rattle.flash.specs.Flash.{Reading, levelOne, levelTwoAt, levelTwo, flashDirectory}
@@ -30,11 +32,6 @@ use Rattle.flash.specs.declared.Efs.{Efs}
 use Rattle.flash.specs.declared.Pointer.{Pointer}
 use Rattle.flash.specs.Good.{offsetBy, EfsAt, Absent, PointsTo, physical, flash, DirectoryPointer, late, early, GoodOne, GoodTwo, GoodLevel, of-one, of-two, GoodLength, FlashAcceptance}
 use Rattle.flash.proofs.Ways.{Opened, one, two, opened, open-one, open-two}
-
--- both of two tests
-both : (b c : Bool) → b && c ≡ true → (b ≡ true) × (c ≡ true)
-both true c h = (refl, h)
-both false c h = absurd (let z : _≡_ {A = ℕ} 0 1 = cc in let f : ⊥ = omega arith in f)
 
 module _ (window : ℕ) (s : List ℕ) where
   -- a candidate by one test
@@ -57,9 +54,9 @@ module _ (window : ℕ) (s : List ℕ) where
 
   efs-holds : (a : ℕ) → efs-test a ≡ true → EfsAt window s a
   efs-holds a h =
-      let x = both (leb (0x1_0000_0000 - window) a) _ h in
-      let y = both (leb a 0xFFFF_FFFF) _ (x .1) in
-      let z = both (leb (offsetBy window a + 0x24) (length s)) _ (y .1) in
+      let x = and-eq-true-iff (leb (0x1_0000_0000 - window) a) _ .0 h in
+      let y = and-eq-true-iff (leb a 0xFFFF_FFFF) _ .0 (x .1) in
+      let z = and-eq-true-iff (leb (offsetBy window a + 0x24) (length s)) _ .0 (y .1) in
       record { from = leb-true _ _ (x .0); to = leb-true _ _ (y .0); present = leb-true _ _ (z .0); signature = eqb-true _ _ (z .1) }
 
   module _ (candidates : List ℕ) where
@@ -103,34 +100,25 @@ present-says p f = by (absent p) refl
     by false q = refl
 
 present-fact : (p : ℕ) → absent p ≡ false → Absent p → ⊥
-present-fact p h a = let y = absent-says p a in let z : _≡_ {A = ℕ} 0 1 = cc in omega arith
-
--- one of two, by a test
-either : {A C : Type 0} {a : A} (b : Bool) (x y : Reply A) → cond b x y ≡ given a → (b ≡ true → x ≡ given a → C) → (b ≡ false → y ≡ given a → C) → C
-either true x y e f g = f refl e
-either false x y e f g = g refl e
+present-fact p h a = apart (absent-says p a) h
 
 module _ (window : ℕ) (s : List ℕ) where
   in-image-fact : (x o : Offset) → inImage s x ≡ given o → x .0 ≡ o .0
   in-image-fact x o e = let g = past (leb (x .0) (length s)) _ _ _ e in cc (g .1)
 
   pointer-fact : (p : ℕ) (o : Offset) → pointerTo window s p ≡ given o → PointsTo window p (o .0)
-  unfolding pointerTo offsetIn
+  unfolding pointerTo
   pointer-fact p o e =
       either (leb (0x1_0000_0000 - window) p) _ _ e
       (λ b x.
       let t = then-given (offsetIn window p) (inImage s) x in
-      let h1 = past (leb (0x1_0000_0000 - window) p) _ _ _ (t .1) in
-      let h2 = past (leb p 0xFFFF_FFFF) _ _ _ (h1 .1) in
-      let q : offsetBy window p ≡ t .0 .0 = cc (h2 .1) in
-      physical (leb-true _ _ b) (leb-true _ _ (h2 .0)) (q ∙ in-image-fact (t .0) o (t .2)))
+      let f = offset-fact window p (t .0) (t .1) in
+      physical (f .0) (f .1) (f .2 ∙ in-image-fact (t .0) o (t .2)))
       (λ b y. let g = past (ltb p window) _ _ _ y in flash (leb-false _ _ b) (ltb-true _ _ (g .0)) (in-image-fact (record { 0 = p }) o (g .1)))
 
   pointer-given : (p o : ℕ) → PointsTo window p o → o ≤ length s → pointerTo window s p ≡ given (record { 0 = o })
-  unfolding pointerTo offsetIn
-  pointer-given p o (physical f t q) h =
-      let b : offsetBy window p ≤ length s = omega arith in
-      simp (le-leb _ _ f, le-leb _ _ t, le-leb _ _ b) (ap (λ (x : ℕ). given (record { 0 = x })) q)
+  unfolding pointerTo
+  pointer-given p o (physical f t q) h = simp (le-leb _ _ f, offset-given window p o f t q, le-leb _ _ h)
   pointer-given p o (flash f t q) h =
       let b : p ≤ length s = omega arith in
       simp (lt-leb _ _ f, lt-ltb _ _ t, le-leb _ _ b) (ap (λ (x : ℕ). given (record { 0 = x })) q)
@@ -183,7 +171,7 @@ module _ (r : Reading) (s : List ℕ) (d : Directory) where
       ∙ at-level 1 (g .level) (g .directory)
 
 module _ (r : Reading) (s : List ℕ) (d above : Directory) where
-  only-two : ((j : ℕ) → getD s j 0 < 256) → levelOne r s ≡ given above → levelTwo (r .kind) (r .limit) (r .window) s above ≡ given d → GoodTwo r s d
+  only-two : Bytes s → levelOne r s ≡ given above → levelTwo (r .kind) (r .limit) (r .window) s above ≡ given d → GoodTwo r s d
   only-two bytes a e =
       let k = then-given (leadIn (r .kind) s above) (levelTwoAt (r .kind) (r .limit) (r .window) s (above .place .0)) e in
       let p = then-given (leadsTo (r .window) s (above .place .0) (k .0)) (directoryAt (r .kind) (r .limit) 2 s) (k .2) in
@@ -199,7 +187,7 @@ all-two r s d g =
     ∙ ap (λ (x : Reply ℕ). then x (directoryAt (r .kind) (r .limit) 2 s)) (lead-given (r .window) s (g .above .place .0) (entryOf (r .kind) s (g .above) (g .lead)) (d .place .0) (g .begins) (begins r s d (g .directory)))
     ∙ at-level r s d 2 (g .level) (g .directory)
 
-only-level : (r : Reading) (level : ℕ) (s : List ℕ) (d : Directory) → ((j : ℕ) → getD s j 0 < 256) → flashDirectory r level s ≡ given d → GoodLength s × GoodLevel r s d level
+only-level : (r : Reading) (level : ℕ) (s : List ℕ) (d : Directory) → Bytes s → flashDirectory r level s ≡ given d → GoodLength s × GoodLevel r s d level
 only-level r level s d bytes e = let o = opened r s d level e in (o .0, by (o .1))
   where
     by : {l : ℕ} → Opened r s d l → GoodLevel r s d l

@@ -4,10 +4,11 @@ use mathlib.Core.Path.{_≡_}
 use mathlib.Core.Logic.{_⊎_}
 use mathlib.Core.List.{List}
 use lib.ListN.{length, getD}
-use Rattle.le.specs.Le.{leAt}
+use Rattle.le.specs.Le.{leAt, Bytes}
 use Rattle.reply.specs.Reply.{given}
+use Rattle.reply.specs.Scan.{Lowest}
 use Rattle.directory.specs.Entry.{entryOf}
-use Rattle.directory.specs.Good.{Lowest, Leads, BeginsAt, GoodDirectory}
+use Rattle.directory.specs.Good.{Leads, BeginsAt, GoodDirectory}
 use Rattle.directory.specs.declared.Directory.{Directory}
 use Rattle.flash.specs.Flash.{Reading, flashDirectory}
 
@@ -66,5 +67,5 @@ pub record GoodLength (image : List ℕ) : Type 0 where
 
 -- the directory of a level is given exactly where it is good, in an image of bytes
 pub record FlashAcceptance : Type 0 where
-  pub only : (r : Reading) (level : ℕ) (image : List ℕ) (d : Directory) → ((j : ℕ) → getD image j 0 < 256) → flashDirectory r level image ≡ given d → GoodLength image × GoodLevel r image d level
+  pub only : (r : Reading) (level : ℕ) (image : List ℕ) (d : Directory) → Bytes image → flashDirectory r level image ≡ given d → GoodLength image × GoodLevel r image d level
   pub all : (r : Reading) (level : ℕ) (image : List ℕ) (d : Directory) → GoodLength image → GoodLevel r image d level → flashDirectory r level image ≡ given d

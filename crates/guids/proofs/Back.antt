@@ -9,21 +9,21 @@ use borrow.Author.Tests.{leb-true, le-leb, eqb-true}
 use lib.ListN.{length, take, drop, replicate, length-append, length-drop, length-replicate, replicate-append-replicate, take-append-drop}
 use lib.Dec.{leb, eqb}
 use lib.Seq.{append-snoc, drop-append-le, take-at, drop-at, length-take-le}
-use Rattle.le.specs.Le.{leBytes, putBytes, putAt}
+use Rattle.le.specs.Le.{leBytes, putBytes, putAt, Bytes}
 use Rattle.le.proofs.Put.{put-some, length-leBytes}
-use Rattle.le.proofs.Back.{put-long}
+use Rattle.le.proofs.Back.{put-long, put-over}
 use Rattle.reply.specs.Reply.{Reply, given, then}
-use Rattle.reply.proofs.ReplyLaws.{past, then-given}
+use Rattle.reply.proofs.ReplyLaws.{past, then-given, apart}
 use Rattle.guids.specs.declared.Guid.{Guid}
 use Rattle.guids.specs.declared.Entry.{Entry}
 use Rattle.guids.specs.declared.Totals.{Totals}
 use Rattle.guids.specs.Table.{guidBytes, footer, totalAt, entriesOf, totalsOf, tableOf}
 use Rattle.guids.specs.Write.{endBytes, startOf, startedBy, entryBytes, allZero, roomFor, extendOf, extendedBy}
-use Rattle.guids.specs.Layout.{Item, itemsBytes, totalOf, imageOf, Sixteen, Whole, Laid, entriesAt, itemOf, itemsOf, Bytes}
+use Rattle.guids.specs.Layout.{Item, itemsBytes, totalOf, imageOf, Sixteen, Whole, Laid, entriesAt, itemOf, itemsOf}
 use Rattle.guids.specs.Back.{started, StartGives, Extendable, ExtendAcceptance, ExtendAdds, extendAll, ItemsBack, cleared, SameAgain}
 use Rattle.guids.proofs.Walk.{listOf, good-table}
-use Rattle.guids.proofs.Writing.{length-end, start-some, room-facts}
-use Rattle.guids.proofs.Here.{put-here}
+use Rattle.guids.proofs.Writing.{start-some, room-facts}
+use Rattle.guids.proofs.Here.{length-end}
 use Rattle.guids.proofs.Laid.{length-entry, laid-length, laid-total, laid-entries, laid-items, items-laid}
 
 -- the bytes of two lists of items: the second lies farther from the footer
@@ -99,10 +99,10 @@ module _ (s : List ℕ) (items : List Item) (l : Laid s items) (g : Guid) (bytes
       let first : length (l .front) ≡ length front + more = ap length before ∙ length-append front used ∙ ap (λ (k : ℕ). length front + k) size in
       let mid : length (l .front ++ old) ≡ length (l .front) + length old = length-append (l .front) old in
       let one : putAt 2 total s (length s - 50) ≡ (l .front ++ old) ++ (leBytes 2 total ++ end) =
-      put-here s (l .front ++ old) end (length s - 50) (omega arith) (leBytes 2 (totalOf items)) (leBytes 2 total) (l .is ∙ simp append-assoc)
+      put-over s (l .front ++ old) end (length s - 50) (omega arith) (leBytes 2 total) (leBytes 2 (totalOf items)) (l .is ∙ simp append-assoc)
       (length-leBytes 2 (totalOf items) ∙ sym (length-leBytes 2 total)) in
       let two : putBytes entry (putAt 2 total s (length s - 50)) (length s - 32 - total) ≡ front ++ (entry ++ (old ++ (leBytes 2 total ++ end))) =
-      put-here (putAt 2 total s (length s - 50)) front (old ++ (leBytes 2 total ++ end)) (length s - 32 - total) (omega arith) used entry (one ∙ rw before (simp append-assoc))
+      put-over (putAt 2 total s (length s - 50)) front (old ++ (leBytes 2 total ++ end)) (length s - 32 - total) (omega arith) entry used (one ∙ rw before (simp append-assoc))
       (size ∙ sym (length-entry g bytes)) in
       let new : totalOf further ≡ total = omega (arith, length-far items (record { guid = g; bytes = bytes })) in
       two ∙ rw (new, items-far items (record { guid = g; bytes = bytes })) (simp append-assoc)
@@ -170,7 +170,7 @@ zeros-are (b ∷ l) e = by (eqb b 0) refl e (zeros-are l)
   where
     by : (t : Bool) → eqb b 0 ≡ t → (t && allZero l) ≡ true → (allZero l ≡ true → l ≡ replicate (length l) 0) → b ∷ l ≡ 0 ∷ replicate (length l) 0
     by true z q f = let h = eqb-true b 0 z in let r = f q in λ j. h j ∷ r j
-    by false z q f = let n : _≡_ {A = ℕ} 0 1 = cc in absurd (let f : ⊥ = omega arith in f)
+    by false z q f = apart q refl
 
 extend-only : (s bytes : List ℕ) (total : ℕ) → Bytes s → extendOf s bytes ≡ given total → Extendable s bytes total
 extend-only s bytes total b e =
@@ -284,10 +284,10 @@ module _ (s : List ℕ) (items : List Item) (l : Laid s items) where
       let first : length (l .front ++ zero) ≡ length (l .front) + size = length-append (l .front) zero ∙ ap (λ (k : ℕ). length (l .front) + k) (length-replicate size 0) in
       let clear : cleared s ≡ (l .front ++ zero) ++ (replicate 18 0 ++ l .back) =
       ap (λ (k : ℕ). putBytes (replicate k 0) s (length s - 32 - k)) (laid-total s items l)
-      ∙ put-here s (l .front) (l .back) (length s - 32 - total) (omega arith) table (replicate total 0) (l .is ∙ simp append-assoc) (long ∙ sym (length-replicate total 0))
+      ∙ put-over s (l .front) (l .back) (length s - 32 - total) (omega arith) (replicate total 0) table (l .is ∙ simp append-assoc) (long ∙ sym (length-replicate total 0))
       ∙ ap (λ (x : List ℕ). l .front ++ (x ++ l .back)) (sym (replicate-append-replicate size 18 0)) ∙ simp append-assoc in
       ap (startedBy (cleared s)) (start-some (cleared s) (omega arith))
-      ∙ put-here (cleared s) (l .front ++ zero) (l .back) (length (cleared s) - 50) (omega arith) (replicate 18 0) (endBytes 18 footer) clear (sym (length-end 18 footer))
+      ∙ put-over (cleared s) (l .front ++ zero) (l .back) (length (cleared s) - 50) (omega arith) (endBytes 18 footer) (replicate 18 0) clear (sym (length-end 18 footer))
 
   same-again : extendAll (started (cleared s)) items ≡ given s
   unfolding itemsBytes

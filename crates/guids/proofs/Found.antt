@@ -1,79 +1,67 @@
 -- The first match, the entry at a position, and the least total. Assumes nothing.
 use mathlib.Core.Path.{_≡_, refl, sym, ap, _∙_}
 use mathlib.Core.List.{List}
-use mathlib.Core.Bool.{Bool, true, false, _&&_}
+use mathlib.Core.Bool.{true, and-eq-true-iff}
 use Prim.Native.Nat.{ℕ, _-_, _<_, _≤_}
 use native.Mathlib.Omega.{arith}
 use borrow.Author.Tests.{eqb-true, eq-eqb, le-leb, lt-leb, le-ltb, lt-ltb}
 use lib.ListN.{length, getD}
 use lib.Dec.{eqb}
-use Rattle.reply.specs.Reply.{Carried, given, refused, alone, tested}
+use Rattle.reply.specs.Reply.{Reply, Carried, given, refused, alone, tested}
 use Rattle.reply.proofs.ReplyLaws.{clash, passed, failed}
-use Rattle.reply.proofs.ScanLaws.{First, hit, miss, first, scan-hit, scan-miss}
+use Rattle.reply.specs.Scan.{Lowest, None}
+use Rattle.reply.proofs.Lowest.{Searched, lowest, none, Decided, lowest-found, none-found, searched}
 use Rattle.guids.specs.declared.Guid.{Guid}
 use Rattle.guids.specs.declared.Entry.{Entry}
 use Rattle.guids.specs.declared.Match.{Match}
 use Rattle.guids.specs.Table.{guidAt, sameGuid, footer, totalAt, headerOf, tableOf, noEntry, matchAt, nowhere, findIn}
-use Rattle.guids.specs.Found.{FirstMatch, NoMatch, FirstMatchFound, EntryGiven, LeastTotal}
+use Rattle.guids.specs.Found.{Has, FirstMatchFound, EntryGiven, LeastTotal}
 use Rattle.guids.proofs.Walk.{walk-end}
 
 -- two GUIDs are the same exactly where the test says so
 pub same-true : (g h : Guid) → sameGuid g h ≡ true → g ≡ h
-same-true g h e = by (eqb (g .low) (h .low)) refl e
-  where
-    by : (b : Bool) → eqb (g .low) (h .low) ≡ b → (b && eqb (g .high) (h .high)) ≡ true → g ≡ h
-    by true p q = let l = eqb-true _ _ p in let r = eqb-true _ _ q in λ j. record { low = l j; high = r j }
-    by false p q = let z : _≡_ {A = ℕ} 0 1 = cc in absurd (let f : ⊥ = omega arith in f)
+same-true g h e =
+    let both = and-eq-true-iff (eqb (g .low) (h .low)) _ .0 e in
+    let low = eqb-true _ _ (both .0) in
+    let high = eqb-true _ _ (both .1) in
+    λ j. record { low = low j; high = high j }
 
 pub true-same : (g h : Guid) → g ≡ h → sameGuid g h ≡ true
 true-same g h e = simp (eq-eqb _ _ (ap (λ (x : Guid). x .low) e), eq-eqb _ _ (ap (λ (x : Guid). x .high) e))
 
-false-same : (g h : Guid) → (g ≡ h → ⊥) → sameGuid g h ≡ false
-false-same g h n = by (sameGuid g h) refl
-  where
-    by : (b : Bool) → sameGuid g h ≡ b → b ≡ false
-    by true p = absurd (n (same-true g h p))
-    by false p = refl
-
-never : {A : Type 0} (g h : Guid) → sameGuid g h ≡ false → g ≡ h → A
-never g h n e = let t = true-same g h e in let z : _≡_ {A = ℕ} 0 1 = cc in absurd (let f : ⊥ = omega arith in f)
-
--- the search in a list of entries comes to the first match, or there is none
-data Search (g : Guid) (entries : List Entry) : Type 0 where
-  match : (i : ℕ) → FirstMatch g entries i → Search g entries
-  none : NoMatch g entries → Search g entries
-
+-- the search in a list of entries comes to the lowest match, or there is none
 module _ (g : Guid) (entries : List Entry) where
-  abbrev test : ℕ → Bool
-  test i = sameGuid (getD entries i noEntry .guid) g
+  abbrev by-test : Decided (Has g entries)
+  by-test = record { test = λ i. sameGuid (getD entries i noEntry .guid) g; says = λ i. true-same _ _; holds = λ i. same-true _ _ }
 
-  search-of : First test 0 (length entries) → Search g entries
-  search-of (hit i a b t f) = match i (record { inside = b; here = same-true _ _ t; earlier = λ j c q. never _ _ (f j (omega arith) c) q })
-  search-of (miss f) = none (λ j c q. never _ _ (f j (omega arith) c) q)
+  abbrev matchedAt : ℕ → Reply Match
+  matchedAt i = given (matchAt entries i)
 
-  found : Search g entries
-  found = search-of (first test (length entries) 0 (length entries) (omega arith))
+  in-found : (i : ℕ) → Lowest (Has g entries) (length entries) i → findIn g entries ≡ matchedAt i
+  in-found = lowest-found (Has g entries) by-test matchedAt nowhere (length entries)
 
-  in-found : (i : ℕ) → FirstMatch g entries i → findIn g entries ≡ given (matchAt entries i)
-  in-found i m =
-      scan-hit test (λ j. given (matchAt entries j)) nowhere (length entries) 0 i (omega arith) (omega (arith, m .inside)) (true-same _ _ (m .here)) (λ j a b. false-same _ _ (m .earlier j b))
+  in-absent : None (Has g entries) (length entries) → findIn g entries ≡ refused 8 (tested (length entries))
+  in-absent = none-found (Has g entries) by-test matchedAt nowhere (length entries)
 
-  in-absent : NoMatch g entries → findIn g entries ≡ refused 8 (tested (length entries))
-  in-absent m = scan-miss test (λ j. given (matchAt entries j)) nowhere (length entries) 0 (length entries) (omega arith) (λ j a b. false-same _ _ (m j b))
+  abbrev Search : Type 0
+  Search = Searched (Has g entries) matchedAt nowhere (length entries) (findIn g entries)
 
-  in-found-only : (m : Match) → findIn g entries ≡ given m → (i : ℕ) × FirstMatch g entries i × (m ≡ matchAt entries i)
-  in-found-only m e = by found
+  search : Search
+  search = searched (Has g entries) by-test matchedAt nowhere (length entries)
+
+  in-found-only : (m : Match) → findIn g entries ≡ given m → (i : ℕ) × Lowest (Has g entries) (length entries) i × (m ≡ matchAt entries i)
+  in-found-only m e = by search
     where
-      by : Search g entries → (i : ℕ) × FirstMatch g entries i × (m ≡ matchAt entries i)
-      by (match i f) = let q = in-found i f in (i, f, cc)
-      by (none n) = clash (sym (in-absent n) ∙ e)
+      by : Search → (i : ℕ) × Lowest (Has g entries) (length entries) i × (m ≡ matchAt entries i)
+      by (lowest i f q) = (i, f, cc)
+      by (none n q) = clash (sym q ∙ e)
 
-  in-absent-only : (w : ℕ) (c : Carried) → findIn g entries ≡ refused w c → NoMatch g entries × (w ≡ 8) × (c ≡ tested (length entries))
-  in-absent-only w c e = by found
+  in-absent-only : (w : ℕ) (c : Carried) → findIn g entries ≡ refused w c → None (Has g entries) (length entries) × (w ≡ 8) × (c ≡ tested (length entries))
+  in-absent-only w c e = by search
     where
-      by : Search g entries → NoMatch g entries × (w ≡ 8) × (c ≡ tested (length entries))
-      by (match i f) = clash (sym e ∙ in-found i f)
-      by (none n) = let q = in-absent n in (n, cc, cc)
+      by : Search → None (Has g entries) (length entries) × (w ≡ 8) × (c ≡ tested (length entries))
+      by (lowest i f q) = clash (sym e ∙ q)
+      by (none n q) = (n, cc, cc)
 
 pub first-match : FirstMatchFound
 first-match = record {

@@ -7,18 +7,19 @@ use native.Mathlib.Omega.{arith}
 use borrow.Author.Tests.{le-leb}
 use lib.ListN.{length, take, drop, length-append, length-drop, take-append-drop}
 use lib.Seq.{length-take-le, take-add, take-at, drop-at, drop-drop}
-use Rattle.le.specs.Le.{leAt}
+use Rattle.le.specs.Le.{leAt, Bytes}
+use Rattle.le.proofs.Laws.{le-small}
+use Rattle.le.proofs.Part.{part-length, part-add, part-rest}
 use Rattle.reply.specs.Reply.{given}
 use Rattle.reply.proofs.ReplyLaws.{then-given}
 use Rattle.guids.specs.declared.Guid.{Guid}
 use Rattle.guids.specs.declared.Entry.{Entry}
 use Rattle.guids.specs.Table.{guidAt, footer, totalAt, headerOf, lengthBefore, entryBefore, entriesBefore, entriesUnder, entriesOf}
 use Rattle.guids.specs.Write.{endBytes, entryBytes}
-use Rattle.guids.specs.Layout.{Item, itemsBytes, totalOf, Sixteen, Whole, Laid, entriesAt, itemOf, itemsOf, Bytes, TableAcceptance}
+use Rattle.guids.specs.Layout.{Item, itemsBytes, totalOf, Sixteen, Whole, Laid, entriesAt, itemOf, itemsOf, TableAcceptance}
 use Rattle.guids.proofs.Walk.{footer-is, Header, header-facts, walk-end, walk-step, Entries, none, entry, walk-only}
-use Rattle.guids.proofs.Writing.{length-end}
+use Rattle.guids.proofs.Here.{length-end, end-here, end-back}
 use Rattle.guids.proofs.Found.{same-true, true-same}
-use Rattle.guids.proofs.Here.{end-here, end-back, le-below}
 
 pub length-entry : (g : Guid) (bytes : List ℕ) → length (entryBytes g bytes) ≡ length bytes + 18
 length-entry g bytes = length-append bytes _ ∙ ap (λ (k : ℕ). length bytes + k) (length-end (length bytes + 18) g)
@@ -45,7 +46,7 @@ module _ (s pre : List ℕ) where
       let xs = pre ++ (itemsBytes items ++ i .bytes) in
       let long : length (itemsBytes items ++ last) ≡ length (itemsBytes items) + n = length-append (itemsBytes items) last ∙ ap (λ (k : ℕ). length (itemsBytes items) + k) (length-entry (i .guid) (i .bytes)) in
       let far : length xs ≡ length pre + (length (itemsBytes items) + length (i .bytes)) = length-append pre _ ∙ ap (λ (k : ℕ). length pre + k) (length-append (itemsBytes items) (i .bytes)) in
-      let f = end-here s xs post (e - 18) n (i .guid) (omega arith) (q ∙ simp append-assoc) (omega arith) (w .0) in
+      let f = end-here n (i .guid) s xs post (e - 18) (omega arith) (q ∙ simp append-assoc) (omega arith) (w .0) in
       let back : e - 18 + 2 ≡ e - 16 = omega arith in
       let place : e - n ≡ length pre + length (itemsBytes items) = omega arith in
       let size : n - 18 ≡ length (i .bytes) = omega arith in
@@ -75,7 +76,7 @@ module _ (s : List ℕ) (items : List Item) (l : Laid s items) where
 
   ends : (totalAt s ≡ totalOf items) × (guidAt s (length s - 50 + 2) ≡ footer)
   ends =
-      end-here s (l .front ++ itemsBytes items) (l .back) (length s - 50) (totalOf items) footer (omega (arith, laid-length, length-append (l .front) (itemsBytes items)))
+      end-here (totalOf items) footer s (l .front ++ itemsBytes items) (l .back) (length s - 50) (omega (arith, laid-length, length-append (l .front) (itemsBytes items)))
       (l .is ∙ simp append-assoc) (omega (arith, l .small)) footer-fits
 
   pub laid-total : totalAt s ≡ totalOf items
@@ -118,24 +119,15 @@ record Filled (s : List ℕ) (e left : ℕ) (es : List Entry) : Type 0 where
 
 -- the way back, over an image of bytes
 module _ (s : List ℕ) (bytes : Bytes s) where
-  part-length : (o n : ℕ) → o + n ≤ length s → length (take n (drop o s)) ≡ n
-  part-length o n h = length-take-le n (drop o s) (rw length-drop (omega arith))
-
-  part-add : (o m n : ℕ) → take m (drop o s) ++ take n (drop (o + m) s) ≡ take (m + n) (drop o s)
-  part-add o m n = sym (take-add m n (drop o s) ∙ ap (λ (r : List ℕ). take m (drop o s) ++ take n r) (drop-drop m o s))
-
-  part-rest : (o m : ℕ) → take m (drop o s) ++ drop (o + m) s ≡ drop o s
-  part-rest o m = ap (λ (r : List ℕ). take m (drop o s) ++ r) (sym (drop-drop m o s)) ∙ take-append-drop m (drop o s)
-
   -- the n bytes of an entry that ends at e
   entry-back : (e n : ℕ) → leAt 2 s (e - 18) ≡ n → 18 ≤ n → n ≤ e → e ≤ length s → entryBytes (guidAt s (e - 16)) (take (n - 18) (drop (e - n) s)) ≡ take n (drop (e - n) s)
   entry-back e n is least most inside =
       let back : e - 18 + 2 ≡ e - 16 = omega arith in
       let end : e - n + (n - 18) ≡ e - 18 = omega arith in
-      let size : length (take (n - 18) (drop (e - n) s)) + 18 ≡ n = omega (arith, part-length (e - n) (n - 18) (omega arith)) in
+      let size : length (take (n - 18) (drop (e - n) s)) + 18 ≡ n = omega (arith, part-length s (e - n) (n - 18) (omega arith)) in
       let all : n - 18 + 18 ≡ n = omega arith in
       let last : endBytes n (guidAt s (e - 16)) ≡ take 18 (drop (e - 18) s) = rw (is, back) at (end-back s bytes (e - 18) (omega arith)) in
-      rw (size, last) (rw (end, all) at (part-add (e - n) (n - 18) 18))
+      rw (size, last) (rw (end, all) at (part-add s (e - n) (n - 18) 18))
 
   -- one entry more, nearer the footer
   lay-entry : (e left n : ℕ) (others : List Entry) → leAt 2 s (e - 18) ≡ n → 18 ≤ n → n ≤ left → left ≤ e → e ≤ length s → Filled s (e - n) (left - n) others → Filled s e left (entryBefore s e n ∷ others)
@@ -143,17 +135,17 @@ module _ (s : List ℕ) (bytes : Bytes s) where
   lay-entry e left n others is least most a b r =
       let same : e - n - (left - n) ≡ e - left = omega arith in
       let front : itemsBytes (r .items) ≡ take (left - n) (drop (e - left) s) = rw same at (r .bytes) in
-      let long : length (itemsBytes (r .items)) ≡ left - n = ap length front ∙ part-length (e - left) (left - n) (omega arith) in
+      let long : length (itemsBytes (r .items)) ≡ left - n = ap length front ∙ part-length s (e - left) (left - n) (omega arith) in
       let end : e - left + (left - n) ≡ e - n = omega arith in
       let all : left - n + n ≡ left = omega arith in
       let place : e - n ≡ e - left + length (itemsBytes (r .items)) = omega arith in
-      let size : n - 18 ≡ length (take (n - 18) (drop (e - n) s)) = sym (part-length (e - n) (n - 18) (omega arith)) in
+      let size : n - 18 ≡ length (take (n - 18) (drop (e - n) s)) = sym (part-length s (e - n) (n - 18) (omega arith)) in
       let others-are : others ≡ entriesAt (e - left) (r .items) = rw same at (r .entries) in
       record {
         items = record { guid = guidAt s (e - 16); bytes = take (n - 18) (drop (e - n) s) } ∷ r .items;
-        bytes = rw (front, entry-back e n is least (omega arith) b) (rw (end, all) at (part-add (e - left) (left - n) n));
+        bytes = rw (front, entry-back e n is least (omega arith) b) (rw (end, all) at (part-add s (e - left) (left - n) n));
         entries = λ j. record { guid = guidAt s (e - 16); place = place j; length = size j } ∷ others-are j;
-        whole = (record { low = le-below s bytes 8 (e - 16); high = le-below s bytes 8 (e - 16 + 8) }, r .whole);
+        whole = (record { low = le-small s bytes 8 (e - 16); high = le-small s bytes 8 (e - 16 + 8) }, r .whole);
       }
 
   lay : {e left : ℕ} {es : List Entry} → Entries s e left es → left ≤ e → e ≤ length s → Filled s e left es
@@ -167,7 +159,7 @@ module _ (s : List ℕ) (bytes : Bytes s) where
       let p = places (length s) total (f .long) (f .least) (f .most) in
       let from = length s - 32 - total in
       let table : itemsBytes (r .items) ≡ take (total - 18) (drop from s) = rw (p .begin) at (r .bytes) in
-      let size : totalOf (r .items) ≡ total = ap (λ (x : List ℕ). length x + 18) table ∙ ap (λ (k : ℕ). k + 18) (part-length from (total - 18) (p .inside)) ∙ p .counted in
+      let size : totalOf (r .items) ≡ total = ap (λ (x : List ℕ). length x + 18) table ∙ ap (λ (k : ℕ). k + 18) (part-length s from (total - 18) (p .inside)) ∙ p .counted in
       let last : endBytes total footer ≡ take 18 (drop (length s - 50) s) =
       ap (endBytes total) (sym (same-true (guidAt s (length s - 48)) footer (f .foot))) ∙ (rw (f .is, p .back) at (end-back s bytes (length s - 50) (p .room))) in
       record {
@@ -175,10 +167,10 @@ module _ (s : List ℕ) (bytes : Bytes s) where
         back = drop (length s - 32) s;
         is =
             sym (rw (size, table, last) (
-            ap (λ (r : List ℕ). take from s ++ (take (total - 18) (drop from s) ++ r)) (rw (p .behind) at (part-rest (length s - 50) 18))
-            ∙ ap (λ (r : List ℕ). take from s ++ r) (rw (p .end) at (part-rest from (total - 18))) ∙ take-append-drop from s));
+            ap (λ (r : List ℕ). take from s ++ (take (total - 18) (drop from s) ++ r)) (rw (p .behind) at (part-rest s (length s - 50) 18))
+            ∙ ap (λ (r : List ℕ). take from s ++ r) (rw (p .end) at (part-rest s from (total - 18))) ∙ take-append-drop from s));
         behind = length-drop (length s - 32) s ∙ p .tail;
-        small = rw size (le-pred-of-lt (rw (f .is) at (le-below s bytes 2 (length s - 50))));
+        small = rw size (le-pred-of-lt (rw (f .is) at (le-small s bytes 2 (length s - 50))));
         whole = r .whole;
       }
 

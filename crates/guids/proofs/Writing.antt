@@ -1,38 +1,19 @@
 -- What starting and extending a table cite. Assumes nothing.
 use mathlib.Core.Path.{_≡_, sym, ap, _∙_}
-use mathlib.Core.List.{List, _++_, append-assoc}
+use mathlib.Core.List.{List}
 use mathlib.Core.Bool.{true, false}
 use Prim.Native.Nat.{ℕ, _+_, _-_, _<_, _≤_}
-use native.Mathlib.Numerals.{add-one}
 use native.Mathlib.Omega.{arith}
 use borrow.Author.Tests.{leb-true, le-leb, lt-leb, ne-eqb}
-use lib.ListN.{length, getD, take, drop, length-append, drop-of-length-le}
-use lib.Seq.{drop-cons}
+use lib.ListN.{length, getD, take, drop, drop-of-length-le}
 use lib.Dec.{leb}
-use Rattle.le.specs.Le.{leBytes, putBytes, putAt}
-use Rattle.le.proofs.Put.{put-join, length-leBytes}
+use Rattle.le.proofs.Part.{drop-next}
 use Rattle.reply.specs.Reply.{given, refused, alone}
 use Rattle.reply.proofs.ReplyLaws.{past, then-given}
-use Rattle.guids.specs.declared.Guid.{Guid}
 use Rattle.guids.specs.declared.Totals.{Totals}
 use Rattle.guids.specs.Table.{tableOf}
-use Rattle.guids.specs.Write.{endBytes, startOf, allZero, roomFor, extendOf}
+use Rattle.guids.specs.Write.{startOf, allZero, roomFor, extendOf}
 use Rattle.guids.proofs.Walk.{Good, good-table}
-
-module _ (n : ℕ) (g : Guid) where
-  pub length-end : length (endBytes n g) ≡ 18
-  length-end = simp (length-append, length-leBytes)
-
-  -- a length and the two halves of a GUID, written one behind the other
-  pub put-end : (s : List ℕ) (o : ℕ) → o + 18 ≤ length s → putAt 8 (g .high) (putAt 8 (g .low) (putAt 2 n s o) (o + 2)) (o + 10) ≡ putBytes (endBytes n g) s o
-  put-end s o h =
-      let two : length (leBytes 2 n) ≡ 2 = length-leBytes 2 n in
-      let low : length (leBytes 8 (g .low)) ≡ 8 = length-leBytes 8 (g .low) in
-      let ten : length (leBytes 2 n ++ leBytes 8 (g .low)) ≡ 10 = simp (length-append, length-leBytes) in
-      let high : length (leBytes 8 (g .high)) ≡ 8 = length-leBytes 8 (g .high) in
-      ap (λ (x : List ℕ). putAt 8 (g .high) x (o + 10)) (rw two at (put-join (leBytes 2 n) (leBytes 8 (g .low)) s o (omega arith)))
-      ∙ (rw ten at (put-join (leBytes 2 n ++ leBytes 8 (g .low)) (leBytes 8 (g .high)) s o (omega arith)))
-      ∙ ap (λ (x : List ℕ). putBytes x s o) (append-assoc (leBytes 2 n) (leBytes 8 (g .low)) (leBytes 8 (g .high)))
 
 pub start-none : (s : List ℕ) → length s < 50 → startOf s ≡ refused 12 alone
 unfolding startOf
@@ -50,11 +31,11 @@ module _ (s : List ℕ) (i : ℕ) where
 
   pub zero-step : i < length s → getD s i 0 ≡ 0 → allZero (drop i s) ≡ allZero (drop (i + 1) s)
   unfolding allZero
-  zero-step h z = rw (add-one, drop-cons s i 0 h, z)
+  zero-step h z = rw (drop-next s i h, z)
 
   pub zero-stop : i < length s → (getD s i 0 ≡ 0 → ⊥) → allZero (drop i s) ≡ false
   unfolding allZero
-  zero-stop h n = rw (drop-cons s i 0 h, ne-eqb (getD s i 0) 0 n)
+  zero-stop h n = rw (drop-next s i h, ne-eqb (getD s i 0) 0 n)
 
 -- what an extend that is accepted says
 pub record Room (s bytes : List ℕ) (total : ℕ) : Type 0 where

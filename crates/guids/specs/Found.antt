@@ -4,29 +4,24 @@ use mathlib.Core.Path.{_≡_}
 use mathlib.Core.List.{List}
 use lib.ListN.{length, getD}
 use Rattle.reply.specs.Reply.{Carried, given, refused, alone, tested}
+use Rattle.reply.specs.Scan.{Lowest, None}
 use Rattle.guids.specs.declared.Guid.{Guid}
 use Rattle.guids.specs.declared.Entry.{Entry}
 use Rattle.guids.specs.declared.Match.{Match}
 use Rattle.guids.specs.Table.{guidAt, footer, totalAt, entriesOf, tableOf, noEntry, matchAt, findOf, entryOf}
 
--- entry i is the first of the entries, nearest the footer, that has the GUID
-pub record FirstMatch (g : Guid) (entries : List Entry) (i : ℕ) : Type 0 where
-  pub inside : i < length entries
-  pub here : getD entries i noEntry .guid ≡ g
-  pub earlier : (j : ℕ) → j < i → getD entries j noEntry .guid ≡ g → ⊥
+-- entry i of these, nearest the footer first, has the GUID
+abbrev pub Has : Guid → List Entry → ℕ → Type 0
+Has g entries i = getD entries i noEntry .guid ≡ g
 
--- no entry has the GUID
-abbrev pub NoMatch : Guid → List Entry → Type 0
-NoMatch g entries = (j : ℕ) → j < length entries → getD entries j noEntry .guid ≡ g → ⊥
-
--- a lookup gives the first match and i + 1 entries tested, or 8 with the number of entries, and nothing else; a table that is refused refuses it
+-- a lookup gives the lowest match i and i + 1 entries tested, or 8 with the number of entries, and nothing else; a table that is refused refuses it
 pub record FirstMatchFound : Type 0 where
-  pub found : (s : List ℕ) (entries : List Entry) (g : Guid) (i : ℕ) → entriesOf s ≡ given entries → FirstMatch g entries i → findOf s g ≡ given (matchAt entries i)
-  pub absent : (s : List ℕ) (entries : List Entry) (g : Guid) → entriesOf s ≡ given entries → NoMatch g entries → findOf s g ≡ refused 8 (tested (length entries))
+  pub found : (s : List ℕ) (entries : List Entry) (g : Guid) (i : ℕ) → entriesOf s ≡ given entries → Lowest (Has g entries) (length entries) i → findOf s g ≡ given (matchAt entries i)
+  pub absent : (s : List ℕ) (entries : List Entry) (g : Guid) → entriesOf s ≡ given entries → None (Has g entries) (length entries) → findOf s g ≡ refused 8 (tested (length entries))
   pub found-only : (s : List ℕ) (entries : List Entry) (g : Guid) (m : Match) → entriesOf s ≡ given entries → findOf s g ≡ given m →
-      (i : ℕ) × FirstMatch g entries i × (m ≡ matchAt entries i)
+      (i : ℕ) × Lowest (Has g entries) (length entries) i × (m ≡ matchAt entries i)
   pub absent-only : (s : List ℕ) (entries : List Entry) (g : Guid) (w : ℕ) (c : Carried) → entriesOf s ≡ given entries → findOf s g ≡ refused w c →
-      NoMatch g entries × (w ≡ 8) × (c ≡ tested (length entries))
+      None (Has g entries) (length entries) × (w ≡ 8) × (c ≡ tested (length entries))
   pub checked : (s : List ℕ) (g : Guid) (w : ℕ) (c : Carried) → entriesOf s ≡ refused w c → findOf s g ≡ refused w c
 
 -- entry i is given where there are more entries than i, else 8 alone; a table that is refused refuses it

@@ -2,7 +2,8 @@
 use Prim.Native.Nat.{ℕ, _+_, _^_, _<_, _≤_}
 use mathlib.Core.Path.{_≡_}
 use mathlib.Core.List.{List, [], _∷_, _++_, map}
-use lib.ListN.{length, getD, take, drop}
+use lib.ListN.{length, take, drop}
+use Rattle.le.specs.Le.{Bytes}
 use Rattle.reply.specs.Reply.{Reply, given, then}
 use Rattle.guids.specs.declared.Guid.{Guid}
 use Rattle.guids.specs.declared.Entry.{Entry}
@@ -58,10 +59,6 @@ itemOf s e = record { guid = e .guid; bytes = take (e .length) (drop (e .place) 
 -- what the table's entries hold, nearest the footer first
 abbrev pub itemsOf : List ℕ → Reply (List Item)
 itemsOf s = then (entriesOf s) (λ entries. given (map (itemOf s) entries))
-
--- every number of a list of bytes is below 256
-abbrev pub Bytes : List ℕ → Type 0
-Bytes s = (i : ℕ) → getD s i 0 < 256
 
 -- a table is given exactly where its items lie in the image; its entries are theirs, and hold them
 pub record TableAcceptance : Type 0 where

@@ -5,7 +5,7 @@ use Prim.Native.Nat.{ℕ, zero, suc, _+_, _*_, _^_, _<_, _≤_}
 use native.Mathlib.Nat.{add-zero, zero-add, suc-add, mul-assoc, mul-comm, pow-suc, one-mul}
 use native.Mathlib.Omega.{arith}
 use lib.ListN.{length, getD, List·getD-eq-default}
-use Rattle.le.specs.Le.{leAt}
+use Rattle.le.specs.Le.{leAt, Bytes}
 
 -- a number of m + n bytes: its low m bytes, and its high n
 pub le-split : (m n : ℕ) (s : List ℕ) (o : ℕ) → leAt (m + n) s o ≡ leAt m s o + 256 ^ m * leAt n s (o + m)
@@ -29,3 +29,14 @@ unfolding leAt
 le-same zero s t p f = refl
 le-same (suc m) s t p f =
     omega (arith, f p (omega arith) (omega arith), le-same m s t (p + 1) (λ j a b. f j (omega arith) (omega arith)))
+
+-- a byte is a number of one byte
+pub byte-le : (s : List ℕ) (o : ℕ) → getD s o 0 ≡ leAt 1 s o
+unfolding leAt
+byte-le s o = omega arith
+
+-- a number that is read of bytes is small enough for its width
+pub le-small : (s : List ℕ) → Bytes s → (n o : ℕ) → leAt n s o < 256 ^ n
+unfolding leAt
+le-small s bytes zero o = omega arith
+le-small s bytes (suc n) o = omega (arith, pow-suc 256 n, bytes o, le-small s bytes n (o + 1))

@@ -24,6 +24,10 @@ module _ (vs s : List ℕ) (o : ℕ) where
   unfolding putBytes
   put-some h = simp (le-leb (o + length vs) (length s) h)
 
+-- bytes written at a list's start
+pub put-front : (vs s : List ℕ) (n : ℕ) → length vs ≡ n → n ≤ length s → putBytes vs s 0 ≡ vs ++ drop n s
+put-front vs s n e h = put-some vs s 0 (omega arith) ∙ ap (λ (k : ℕ). vs ++ drop k s) (zero-add (length vs) ∙ e)
+
 pub length-leBytes : (n v : ℕ) → length (leBytes n v) ≡ n
 unfolding leBytes
 length-leBytes zero v = refl

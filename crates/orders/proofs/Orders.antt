@@ -1,6 +1,6 @@
 -- Every order's rows, by evaluation. Assumes nothing.
 use mathlib.Core.Path.{refl}
-use Rattle.le.specs.Le.{leAt, leBytes, putBytes}
+use Rattle.le.specs.Le.{leAt, leBytes, putBytes, bytesOf}
 use Rattle.fletcher.specs.Fletcher.{wordsAt, sumOf as wordSum, weightedOf, fletcherOf}
 use Rattle.window.specs.Window.{offsetIn}
 use Rattle.reply.specs.Scan.{scan}
@@ -10,7 +10,6 @@ use Rattle.flash.specs.Efs.{candidateAt, pointerTo, pointerOf}
 use Rattle.flash.specs.Flash.{flashDirectory}
 use Rattle.place.specs.Place.{placedAt}
 use Rattle.build.specs.Write.{entryBytes, startOf, roomFor}
-use Rattle.aspt.specs.Field.{bytesOf}
 use Rattle.aspt.specs.Rules.{sumOf, fresh, idFits, registersFit, structureChecks, structuresChecks}
 use Rattle.aspt.specs.Bytes.{reservedZero, foundIn, ownOf, partBytes, bytesWith, tableBytes}
 use Rattle.aspt.specs.Calls.{headerChecks, tableOf, readOf, admitOf, writeOf}

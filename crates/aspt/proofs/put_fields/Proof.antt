@@ -1,7 +1,6 @@
 use Rattle.aspt.proofs.Written.{fields-written}
 use Rattle.aspt.specs.Bytes.{makerFields, spaceFields}
-use Rattle.aspt.specs.Field.{bytesOf}
-use Rattle.le.specs.Le.{putBytes}
+use Rattle.le.specs.Le.{putBytes, bytesOf}
 use borrow.Rule.Slice.PartMut.{putMid}
 use denote.Ref.{now}
 use Prim.Native.Nat.{ℕ}

@@ -1,7 +1,6 @@
-use Rattle.aspt.proofs.Fields.{puts-all}
+use Rattle.le.proofs.Numbers.{puts-all}
 use Rattle.aspt.specs.Bytes.{identityFields}
-use Rattle.aspt.specs.Field.{bytesOf}
-use Rattle.le.specs.Le.{leBytes}
+use Rattle.le.specs.Le.{leBytes, bytesOf}
 use denote.Ref.{now}
 use native.Mathlib.Omega.{arith}
 use borrow.Author.Needs.{needs}

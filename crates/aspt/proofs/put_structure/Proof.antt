@@ -1,7 +1,7 @@
-use Rattle.aspt.proofs.Fields.{puts-fill}
+use Rattle.le.proofs.Numbers.{puts-fill}
 use Rattle.aspt.specs.Bytes.{partBytes, ownOf}
-use Rattle.aspt.specs.Field.{bytesOf, field, filled}
-use Rattle.le.specs.Le.{leBytes}
+use Rattle.aspt.specs.Field.{field, filled}
+use Rattle.le.specs.Le.{leBytes, bytesOf}
 use denote.Ref.{now}
 use mathlib.Core.List.{_∷_, []}
 use mathlib.Core.Path.{sym}

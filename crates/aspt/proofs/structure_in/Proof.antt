@@ -1,4 +1,4 @@
-use Rattle.aspt.proofs.Checks.{byte-one}
+use Rattle.le.proofs.Laws.{byte-le}
 use denote.Ref.{now}
 use borrow.Author.Needs.{needs}
 use Rattle.aspt.proofs.structure_in.Statement.{statement}
@@ -20,7 +20,7 @@ u32-at-requires-3 : tie.Need-u32-at-requires-3
 u32-at-requires-3 c κs = search needs
 
 returns : tie.Need-returns
-returns c = cc (byte-one (now (c .before .before .before .before .before .before .args .part)) 4)
+returns c = cc (byte-le (now (c .before .before .before .before .before .before .args .part)) 4)
 
 pub structure-in-spec : {M : Type 1} → statement M
 structure-in-spec =

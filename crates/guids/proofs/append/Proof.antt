@@ -8,7 +8,8 @@ use Rattle.le.specs.Le.{putBytes, putAt}
 use Rattle.le.proofs.Put.{put-join}
 use Rattle.le.proofs.Back.{put-long}
 use Rattle.guids.specs.Write.{endBytes}
-use Rattle.guids.proofs.Writing.{Room, room-facts, length-end}
+use Rattle.guids.proofs.Here.{length-end}
+use Rattle.guids.proofs.Writing.{Room, room-facts}
 use borrow.Author.Needs.{needs}
 use Rattle.guids.proofs.append.Statement.{statement}
 use Rattle.guids.proofs.append.Tie as tie

@@ -1,5 +1,5 @@
 use denote.Ref.{now}
-use Rattle.guids.proofs.Writing.{put-end}
+use Rattle.guids.proofs.Here.{put-end}
 use borrow.Author.Needs.{needs}
 use Rattle.guids.proofs.put_end.Statement.{statement}
 use Rattle.guids.proofs.put_end.Tie as tie
