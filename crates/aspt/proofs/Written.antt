@@ -13,6 +13,10 @@ use Rattle.aspt.specs.Bytes.{identityFields, makerFields, spaceFields, p
 use Rattle.aspt.specs.declared.Structure.{Structure}
 use Rattle.aspt.specs.declared.Table.{Table}
 
+-- a write after others, which left s
+pub put-next : (vs : List ℕ) (o : ℕ) {s t u : List ℕ} → u ≡ putBytes vs t o → t ≡ s → u ≡ putBytes vs s o
+put-next vs o e f = e ∙ ap (λ (x : List ℕ). putBytes vs x o) f
+
 -- a part that comes back with other bytes
 mid-put : (a n : ℕ) (s ys : List ℕ) → length ys ≡ n → a + n ≤ length s → putMid a n s ys ≡ putBytes ys s a
 mid-put a n s ys e h = sym (put-some ys s a (omega arith) ∙ append-assoc (take a s) ys _ ∙ ap (λ (x : List ℕ). take a s ++ (ys ++ x)) (ap (λ (k : ℕ). drop (a + k) s) e ∙ sym (drop-drop n a s)))

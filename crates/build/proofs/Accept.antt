@@ -2,22 +2,22 @@
 use mathlib.Core.Path.{_≡_, refl, sym, ap, subst, _∙_}
 use mathlib.Core.Logic.{_⊎_, inl, inr}
 use mathlib.Core.List.{List}
-use mathlib.Core.Bool.{Bool, true, false, not, cond}
+use mathlib.Core.Bool.{Bool, true, false}
 use Prim.Native.Nat.{ℕ, _+_, _*_, _^_, _≤_}
 use native.Mathlib.Omega.{arith}
-use borrow.Author.Tests.{leb-true, ltb-true, eqb-true, eqb-false, not-true, ne-eqb}
+use borrow.Author.Tests.{leb-true, ltb-true, eqb-true, eqb-false}
 use lib.ListN.{length}
 use lib.Dec.{leb, ltb, eqb}
 use Rattle.reply.specs.Reply.{Reply, given, refused, then}
 use Rattle.reply.proofs.ReplyLaws.{past, then-given, one-by}
-use Rattle.directory.specs.Directory.{pspKind, directoryOf, directoryByCookie}
+use Rattle.directory.specs.Directory.{pspKind, placedIn, directoryOf, directoryByCookie}
 use Rattle.directory.specs.Good.{GoodDirectory}
 use Rattle.directory.specs.declared.Directory.{Directory}
-use Rattle.directory.proofs.Accept.{cookie-acceptance}
+use Rattle.directory.proofs.Accept.{placed-fact, placed-test, cookie-acceptance}
 use Rattle.build.specs.declared.Fields.{Fields}
 use Rattle.build.specs.declared.Total.{Total}
 use Rattle.build.specs.declared.Total.the-variants as answer
-use Rattle.build.specs.Write.{startOf, placedIn, roomFor, extendOf, toldTotal}
+use Rattle.build.specs.Write.{startOf, roomFor, extendOf, toldTotal}
 use Rattle.build.specs.Accept.{ToldApart, Startable, Extendable, WriteAcceptance}
 use Rattle.build.proofs.Cases.{start-room, room-given}
 
@@ -56,17 +56,6 @@ start-only level s total e =
 pub start-all : (level : ℕ) (s : List ℕ) → Startable level s → startOf level s ≡ given 0
 start-all level s g = let l = from-one level (g .either) in sym (start-room level s (l .0) (l .1) (g .room))
 
--- the test of a misplaced 0x40, as a fact and back
-placed-fact : (level type : ℕ) → placedIn level type ≡ true → (level ≡ 1 → ⊥) → type ≡ 0x40 → ⊥
-placed-fact level type h l = eqb-false _ _ (not-true _ (rw (ne-eqb level 1 l) at h))
-
-placed-test : (level type : ℕ) → ((level ≡ 1 → ⊥) → type ≡ 0x40 → ⊥) → placedIn level type ≡ true
-placed-test level type h = by (eqb level 1) refl
-  where
-    by : (b : Bool) → eqb level 1 ≡ b → cond b true (not (eqb type 0x40)) ≡ true
-    by true q = refl
-    by false q = ap not (ne-eqb type 0x40 (h (eqb-false level 1 q)))
-
 pub extend-only : (f : Fields) (s : List ℕ) (total : ℕ) → extendOf f s ≡ given total → (level : ℕ) × (n : ℕ) × Extendable f s level n × (total ≡ n + 1)
 unfolding roomFor
 extend-only f s total e =
@@ -75,7 +64,7 @@ extend-only f s total e =
     let g = cookie-acceptance .only pspKind 512 s 0 d (t .1) in
     let a = past (ltb (f .location) (2 ^ 62)) _ _ _ (t .2) in
     let b = past (leb (f .mode) 3) _ _ _ (a .1) in
-    let p = past (placedIn (d .level) (f .class)) _ _ _ (b .1) in
+    let p = past (placedIn pspKind (d .level) (f .class)) _ _ _ (b .1) in
     let n = past (ltb (d .total) 512) _ _ _ (p .1) in
     let r = past (leb (16 + d .total * 16 + 16) (length s)) _ _ _ (n .1) in
     let at : d ≡ directoryOf 0 (d .level) (d .total) = ap (λ (o : ℕ). directoryOf o (d .level) (d .total)) (g .1) in (
@@ -84,7 +73,7 @@ extend-only f s total e =
       record {
         either = g .2;
         good = subst (GoodDirectory pspKind 512 s) at (g .0);
-        fits = record { location = ltb-true _ _ (a .0); mode = leb-true _ _ (b .0); placed = placed-fact (d .level) (f .class) (p .0) };
+        fits = record { location = ltb-true _ _ (a .0); mode = leb-true _ _ (b .0); placed = placed-fact pspKind (d .level) (f .class) (p .0) };
         few = ltb-true _ _ (n .0);
         room = leb-true _ _ (r .0);
       },
@@ -96,7 +85,7 @@ extend-all f s level n g =
     let fits = g .fits in
     let l = fits .location in
     ap (λ (r : Reply Directory). then r (roomFor f (length s))) (cookie-acceptance .all pspKind 512 s (directoryOf 0 level n) (λ e. omega arith) (g .good) (g .either))
-    ∙ sym (room-given f (length s) (directoryOf 0 level n) (omega arith) (fits .mode) true (sym (placed-test level (f .class) (fits .placed))) refl (g .few) (g .room))
+    ∙ sym (room-given f (length s) (directoryOf 0 level n) (omega arith) (fits .mode) pspKind true refl (sym (placed-test pspKind level (f .class) (fits .placed))) refl (g .few) (g .room))
 
 pub write-acceptance : WriteAcceptance
 write-acceptance = record { start-only = start-only; start-all = start-all; extend-only = extend-only; extend-all = extend-all }

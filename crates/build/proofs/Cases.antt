@@ -13,10 +13,11 @@ use Rattle.le.proofs.Put.{put-some}
 use Rattle.le.proofs.Numbers.{puts-all}
 use Rattle.fletcher.specs.Fletcher.{wordsAt, sumOf, weightedOf, fletcherOf}
 use Rattle.reply.specs.Reply.{given, refused, alone}
-use Rattle.directory.specs.Directory.{pspKind, cookieOf}
+use Rattle.directory.specs.Directory.{pspKind, cookieOf, placedIn}
+use Rattle.directory.specs.declared.Kind.{Kind}
 use Rattle.directory.specs.declared.Directory.{Directory}
 use Rattle.build.specs.declared.Fields.{Fields}
-use Rattle.build.specs.Write.{entryBytes, entriesBytes, directoryBytes, startOf, startedBy, placedIn, roomFor, lengthened, extendedBy}
+use Rattle.build.specs.Write.{entryBytes, entriesBytes, directoryBytes, startOf, startedBy, roomFor, lengthened, extendedBy}
 use Rattle.build.proofs.Places.{entryNumbers, headNumbers, entry-numbers, length-entryBytes}
 
 module _ (level : ℕ) (s : List ℕ) where
@@ -46,35 +47,38 @@ module _ (f : Fields) (len : ℕ) (d : Directory) where
     unfolding roomFor
     room-mode b = rw (lt-ltb (f .location) (2 ^ 62) (omega arith), lt-leb (f .mode) 3 b)
 
-    module _ (b : f .mode ≤ 3) (p : Bool) (e : p ≡ placedIn (d .level) (f .class)) where
+    module _ (b : f .mode ≤ 3) (kind : Kind) (p : Bool) (k : kind ≡ pspKind) (e : p ≡ placedIn kind (d .level) (f .class)) where
+      placed : placedIn pspKind (d .level) (f .class) ≡ p
+      placed = sym (e ∙ ap (λ (kind : Kind). placedIn kind (d .level) (f .class)) k)
+
       pub room-misplaced : p ≡ false → refused 14 alone ≡ roomFor f len d
       unfolding roomFor
-      room-misplaced h = rw (lt-ltb (f .location) (2 ^ 62) (omega arith), le-leb (f .mode) 3 b, sym e ∙ h)
+      room-misplaced h = rw (lt-ltb (f .location) (2 ^ 62) (omega arith), le-leb (f .mode) 3 b, placed ∙ h)
 
       pub room-full : p ≡ true → 512 ≤ d .total → refused 3 alone ≡ roomFor f len d
       unfolding roomFor
-      room-full h n = rw (lt-ltb (f .location) (2 ^ 62) (omega arith), le-leb (f .mode) 3 b, sym e ∙ h, le-ltb (d .total) 512 n)
+      room-full h n = rw (lt-ltb (f .location) (2 ^ 62) (omega arith), le-leb (f .mode) 3 b, placed ∙ h, le-ltb (d .total) 512 n)
 
       pub room-short : p ≡ true → d .total < 512 → len < 16 + d .total * 16 + 16 → refused 12 alone ≡ roomFor f len d
       unfolding roomFor
       room-short h n r =
-          rw (lt-ltb (f .location) (2 ^ 62) (omega arith), le-leb (f .mode) 3 b, sym e ∙ h, lt-ltb (d .total) 512 n, lt-leb (16 + d .total * 16 + 16) len r)
+          rw (lt-ltb (f .location) (2 ^ 62) (omega arith), le-leb (f .mode) 3 b, placed ∙ h, lt-ltb (d .total) 512 n, lt-leb (16 + d .total * 16 + 16) len r)
 
       pub room-given : p ≡ true → d .total < 512 → 16 + d .total * 16 + 16 ≤ len → given (d .total + 1) ≡ roomFor f len d
       unfolding roomFor
       room-given h n r =
-          rw (lt-ltb (f .location) (2 ^ 62) (omega arith), le-leb (f .mode) 3 b, sym e ∙ h, lt-ltb (d .total) 512 n, le-leb (16 + d .total * 16 + 16) len r)
+          rw (lt-ltb (f .location) (2 ^ 62) (omega arith), le-leb (f .mode) 3 b, placed ∙ h, lt-ltb (d .total) 512 n, le-leb (16 + d .total * 16 + 16) len r)
 
 pub ruleset room-cases = (room-location, room-mode, room-misplaced, room-full, room-short, room-given)
 
 -- a header's four numbers, written in order
-pub header-put : (level cookie : ℕ) (s t u v w : List ℕ) → 1 ≤ level → level ≤ 2 → 16 ≤ length s → cookie ≡ cookieOf pspKind level →
+pub header-put : (kind : Kind) (level cookie : ℕ) (s t u v w : List ℕ) → 1 ≤ level → level ≤ 2 → 16 ≤ length s → kind ≡ pspKind → cookie ≡ cookieOf kind level →
     t ≡ putAt 4 cookie s 0 → u ≡ putAt 4 0xFFFF_FFFF t 4 → v ≡ putAt 4 0 u 8 → w ≡ putAt 4 0 v 12 → w ≡ startedBy level s (startOf level s)
 unfolding leAt leBytes bytesOf wordsAt sumOf weightedOf fletcherOf entriesBytes directoryBytes
-header-put level cookie s t u v w a b h k e1 e2 e3 e4 =
+header-put kind level cookie s t u v w a b h psp k e1 e2 e3 e4 =
     let written = puts-all (headNumbers cookie 0xFFFF_FFFF 0) s 0 h in
     let whole : w ≡ putBytes (bytesOf (headNumbers cookie 0xFFFF_FFFF 0)) s 0 = cc in
-    whole ∙ ap (λ (x : ℕ). putBytes (bytesOf (headNumbers x 0xFFFF_FFFF 0)) s 0) k ∙ ap (startedBy level s) (start-room level s a b h)
+    whole ∙ ap (λ (x : ℕ). putBytes (bytesOf (headNumbers x 0xFFFF_FFFF 0)) s 0) (k ∙ ap (λ (kind : Kind). cookieOf kind level) psp) ∙ ap (startedBy level s) (start-room level s a b h)
 
 -- an entry's five numbers, written in order
 pub entry-put : (f : Fields) (s t u v w x : List ℕ) → 16 ≤ length s →

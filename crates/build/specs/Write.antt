@@ -1,13 +1,12 @@
 -- Starting and extending a PSP directory at a buffer's start, in document 01's words and order. Assumes nothing: these are definitions.
 use Prim.Native.Nat.{ℕ, _+_, _*_, _-_, _^_}
 use mathlib.Core.List.{List, [], _∷_, _++_}
-use mathlib.Core.Bool.{Bool, true, not, cond}
 use lib.ListN.{length}
-use lib.Dec.{leb, ltb, eqb}
+use lib.Dec.{leb, ltb}
 use Rattle.le.specs.Le.{leBytes, putBytes, putAt}
 use Rattle.fletcher.specs.Fletcher.{fletcherOf}
 use Rattle.reply.specs.Reply.{Reply, given, refused, alone, guard, then}
-use Rattle.directory.specs.Directory.{pspKind, cookieOf, entryPlace, checksumAt, directoryByCookie}
+use Rattle.directory.specs.Directory.{pspKind, cookieOf, placedIn, entryPlace, checksumAt, directoryByCookie}
 use Rattle.directory.specs.declared.Directory.{Directory}
 use Rattle.build.specs.declared.Fields.{Fields}
 use Rattle.build.specs.declared.Total.{Total}
@@ -42,15 +41,11 @@ abbrev pub startedBy : ℕ → List ℕ → Reply ℕ → List ℕ
 startedBy level s (given total) = putBytes (directoryBytes level []) s 0
 startedBy level s (refused number carried) = s
 
--- an entry of this type may stand in a directory of this level: type 0x40 in level one alone
-abbrev pub placedIn : ℕ → ℕ → Bool
-placedIn level type = cond (eqb level 1) true (not (eqb type 0x40))
-
 -- what is asked of an entry for a good directory in a buffer of so many bytes; the new total where all holds
 unfoldable pub roomFor : Fields → ℕ → Directory → Reply ℕ
 roomFor f len d =
     guard (ltb (f .location) (2 ^ 62)) 5 (guard (leb (f .mode) 3) 5  -- location below 2^62 and mode at most 3 (5)
-    (guard (placedIn (d .level) (f .class)) 14  -- type 0x40 in level two (14)
+    (guard (placedIn pspKind (d .level) (f .class)) 14  -- type 0x40 in level two (14)
     (guard (ltb (d .total) 512) 3  -- n below 512 (3)
     (guard (leb (entryPlace pspKind 0 (d .total) + 16) len) 12  -- room for 16 more bytes (12)
     (given (d .total + 1))))))

@@ -4,8 +4,7 @@ ghost use Prim.Native.Nat.{_+_, _*_, _<_, _≤_, _^_};
 ghost use lib.ListN.{length};
 ghost use Rattle.reply.specs.Reply.{given};
 ghost use Rattle.le.specs.Le.{putBytes};
-ghost use Rattle.directory.specs.Directory.{pspKind, cookieOf};
-ghost use Rattle.build.specs.Write.{entryBytes, startOf, startedBy, placedIn, roomFor, extendOf, extendedBy, toldTotal};
+ghost use Rattle.build.specs.Write.{entryBytes, startOf, startedBy, roomFor, extendOf, extendedBy, toldTotal};
 use directory::Checked;
 use directory::Directory;
 use reply::Refusal;
@@ -29,14 +28,6 @@ pub enum Total {
 // The checksum of a directory with no entries.
 const EMPTY: u32 = 0xFFFF_FFFF;
 
-// The cookie of a level.
-fn cookie(level: u32) -> u32
-    ensures { λ r. ⌜ r ≡ cookieOf pspKind level ⌝ }
-{
-    let kind = directory::psp();
-    if level == 1 { kind.one } else { kind.two }
-}
-
 // Starts a directory of a level: an empty one is written at the buffer's start, and nothing else.
 pub fn start(buf: &mut [u8], level: u32) -> Total
     ensures { λ r. ⌜ toldTotal r ≡ startOf level (now (buf .entry)) ⌝ }
@@ -51,21 +42,11 @@ pub fn start(buf: &mut [u8], level: u32) -> Total
     if buf.len() < 16 {
         return Total::Refused(Refusal::ROOM);
     }
-    le::put32(buf, 0, cookie(level));
+    le::put32(buf, 0, directory::cookie(directory::psp(), level));
     le::put32(buf, 4, EMPTY);
     le::put32(buf, 8, 0);
     le::put32(buf, 12, 0);
     Total::Given(0)
-}
-
-// May an entry of this type stand in a directory of this level?
-fn placed(level: u32, class: u8) -> bool
-    ensures { λ r. ⌜ r ≡ placedIn level class ⌝ }
-{
-    if level == 1 {
-        return true;
-    }
-    class != 0x40
 }
 
 // What is asked of an entry for a good directory in a buffer of so many bytes: the new total.
@@ -78,7 +59,7 @@ fn room_for(len: usize, d: Directory, f: Fields) -> Total
     if 3 < f.mode {
         return Total::Refused(Refusal::FIELD);
     }
-    if placed(d.level, f.class) {
+    if directory::may_stand(directory::psp(), d.level, f.class) {
         if 512 <= d.total {
             return Total::Refused(Refusal::LIMITS);
         }

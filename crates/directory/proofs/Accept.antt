@@ -12,34 +12,35 @@ use Rattle.le.specs.Le.{leAt}
 use Rattle.reply.specs.Reply.{Reply, given, refused, alone}
 use Rattle.reply.proofs.ReplyLaws.{past, passed, failed, clash}
 use Rattle.reply.proofs.ScanLaws.{scan-kept, scan-through}
-use Rattle.directory.specs.Directory.{cookieOf, totalAt, entryPlace, checksumAt, reservedZero, wellPlaced, entryStep, directoryOf, entriesAt, directoryAt, directoryByCookie}
+use Rattle.directory.specs.Directory.{cookieOf, totalAt, entryPlace, checksumAt, reservedZero, placedIn, wellPlaced, entryStep, directoryOf, entriesAt, directoryAt, directoryByCookie}
 use Rattle.directory.specs.Entry.{entryOf, entryIn}
 use Rattle.directory.specs.Good.{GoodEntry, GoodDirectory, Acceptance, CookieAcceptance, EntryAcceptance}
 use Rattle.directory.specs.declared.Kind.{Kind}
 use Rattle.directory.specs.declared.Directory.{Directory}
 use Rattle.directory.specs.declared.Entry.{Entry}
 
-module _ (kind : Kind) (level : ℕ) (s : List ℕ) where
-  -- the test of a misplaced lead, as a fact and back
-  placed-fact : (e : ℕ) → wellPlaced kind level s e ≡ true → (level ≡ 1 → ⊥) → getD s e 0 ≡ kind .lead → ⊥
-  placed-fact e h l = eqb-false _ _ (not-true _ (rw (ne-eqb level 1 l) at h))
+-- the test of a misplaced lead, as a fact and back
+module _ (kind : Kind) (level type : ℕ) where
+  pub placed-fact : placedIn kind level type ≡ true → (level ≡ 1 → ⊥) → type ≡ kind .lead → ⊥
+  placed-fact h l = eqb-false _ _ (not-true _ (rw (ne-eqb level 1 l) at h))
 
-  placed-test : (e : ℕ) → ((level ≡ 1 → ⊥) → getD s e 0 ≡ kind .lead → ⊥) → wellPlaced kind level s e ≡ true
-  placed-test e h = by (eqb level 1) refl
+  pub placed-test : ((level ≡ 1 → ⊥) → type ≡ kind .lead → ⊥) → placedIn kind level type ≡ true
+  placed-test h = by (eqb level 1) refl
     where
-      by : (b : Bool) → eqb level 1 ≡ b → cond b true (not (eqb (getD s e 0) (kind .lead))) ≡ true
+      by : (b : Bool) → eqb level 1 ≡ b → cond b true (not (eqb type (kind .lead))) ≡ true
       by true q = refl
       by false q = ap not (ne-eqb _ _ (h (eqb-false _ _ q)))
 
+module _ (kind : Kind) (level : ℕ) (s : List ℕ) where
   module _ (limit o : ℕ) where
     step-fact : (d : Directory) (i : ℕ) (rest : Reply Directory) → entryStep kind level s o i rest ≡ given d → GoodEntry kind level s (entryPlace kind o i) × (rest ≡ given d)
     step-fact d i rest e =
         let g = past (reservedZero kind s (entryPlace kind o i)) _ _ _ e in
         let h = past (wellPlaced kind level s (entryPlace kind o i)) _ _ _ (g .1) in
-        (record { reserved = ltb-true _ _ (g .0); placed = placed-fact (entryPlace kind o i) (h .0) }, h .1)
+        (record { reserved = ltb-true _ _ (g .0); placed = placed-fact kind level (getD s (entryPlace kind o i) 0) (h .0) }, h .1)
 
     step-pass : (i : ℕ) (rest : Reply Directory) → GoodEntry kind level s (entryPlace kind o i) → entryStep kind level s o i rest ≡ rest
-    step-pass i rest g = passed _ _ _ _ (lt-ltb _ _ (g .reserved)) ∙ passed _ _ _ _ (placed-test (entryPlace kind o i) (g .placed))
+    step-pass i rest g = passed _ _ _ _ (lt-ltb _ _ (g .reserved)) ∙ passed _ _ _ _ (placed-test kind level (getD s (entryPlace kind o i) 0) (g .placed))
 
     pub only-good : (d : Directory) → directoryAt kind limit level s o ≡ given d → GoodDirectory kind limit s d × (d .place .0 ≡ o) × (d .level ≡ level)
     unfolding directoryAt

@@ -1,4 +1,5 @@
 pub mod Told
+pub mod Cases
 pub mod Accept
 pub mod Lowest
 pub mod Parts

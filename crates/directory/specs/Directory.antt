@@ -37,9 +37,13 @@ checksumAt kind image o n = fletcherOf (take (8 + n * kind .entry) (drop (o + 8)
 abbrev pub reservedZero : Kind → List ℕ → ℕ → Bool
 reservedZero kind image e = ltb (leAt 2 image (e + 2)) (kind .clear)
 
--- the entry at e has not the type that leads to level two, but in level one
+-- an entry of this type may stand in a directory of this level: the type that leads to level two in level one alone
+abbrev pub placedIn : Kind → ℕ → ℕ → Bool
+placedIn kind level type = cond (eqb level 1) true (not (eqb type (kind .lead)))
+
+-- so may the entry at e
 abbrev pub wellPlaced : Kind → ℕ → List ℕ → ℕ → Bool
-wellPlaced kind level image e = cond (eqb level 1) true (not (eqb (getD image e 0) (kind .lead)))
+wellPlaced kind level image e = placedIn kind level (getD image e 0)
 
 -- the tests made at entry i, then the entries behind it
 abbrev pub entryStep : {A : Type 0} → Kind → ℕ → List ℕ → ℕ → ℕ → Reply A → Reply A

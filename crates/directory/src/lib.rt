@@ -5,7 +5,7 @@ ghost use lib.ListN.{length, getD};
 ghost use lib.Dec.{eqb};
 ghost use Rattle.le.specs.Le.{leAt};
 ghost use Rattle.reply.specs.Reply.{guard};
-ghost use Rattle.directory.specs.Directory.{pspKind, cookieOf, entryPlace, checksumAt, reservedZero, wellPlaced, entriesAt, directoryAt, directoryByCookie, toldDirectory};
+ghost use Rattle.directory.specs.Directory.{pspKind, cookieOf, entryPlace, checksumAt, reservedZero, placedIn, wellPlaced, entriesAt, directoryAt, directoryByCookie, toldDirectory};
 ghost use Rattle.directory.specs.Entry.{fieldsAt, entryIn, toldEntry, leadIn, matchOf, findIn, toldLookup};
 ghost use Rattle.directory.specs.Part.{within, leadsTo, toldPlace, rangedAt, partOf, partIn, toldPart, bytesOf, beginOf};
 use reply::Refusal;
@@ -51,7 +51,8 @@ pub enum Checked {
     Refused(Refusal),
 }
 
-fn cookie(kind: Kind, level: u32) -> u32
+// The cookie of a level.
+pub fn cookie(kind: Kind, level: u32) -> u32
     ensures { λ r. ⌜ r ≡ cookieOf kind level ⌝ }
 {
     if level == 1 { kind.one } else { kind.two }
@@ -73,15 +74,22 @@ fn reserved_zero(image: &[u8], kind: Kind, at: Offset, i: u32) -> bool
     le::u16_at(image, e + 2) < kind.clear
 }
 
-// May entry i stand in a directory of this level?
-fn well_placed(image: &[u8], kind: Kind, level: u32, at: Offset, i: u32) -> bool
-    ensures { λ r. ⌜ r ≡ wellPlaced kind level (now (image .entry)) (entryPlace kind (at .0) i) ⌝ }
+// May an entry of this type stand in a directory of this level?
+pub fn may_stand(kind: Kind, level: u32, class: u8) -> bool
+    ensures { λ r. ⌜ r ≡ placedIn kind level class ⌝ }
 {
     if level == 1 {
         return true;
     }
+    class != kind.lead
+}
+
+// May entry i stand in a directory of this level?
+fn well_placed(image: &[u8], kind: Kind, level: u32, at: Offset, i: u32) -> bool
+    ensures { λ r. ⌜ r ≡ wellPlaced kind level (now (image .entry)) (entryPlace kind (at .0) i) ⌝ }
+{
     let e = entry_place(kind, at, i);
-    le::byte_at(image, e) != kind.lead
+    may_stand(kind, level, le::byte_at(image, e))
 }
 
 // The first refusal among the n entries, or the directory.

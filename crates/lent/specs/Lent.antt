@@ -1,9 +1,9 @@
--- What a reply leaves at the boundary: its number, and its values in lent words. Assumes nothing: these are definitions.
+-- What a reply leaves at the boundary: its number, and its values in lent words; and what lent words begin with. Assumes nothing: these are definitions.
 use Prim.Native.Nat.{ℕ}
 use mathlib.Core.List.{List, [], _∷_, _++_}
-use mathlib.Core.Bool.{cond}
+use mathlib.Core.Bool.{Bool, true, false, cond, _&&_}
 use lib.ListN.{length, drop}
-use lib.Dec.{leb}
+use lib.Dec.{leb, eqb}
 use Rattle.reply.specs.Reply.{Reply, given, refused, alone, tested}
 
 -- a call's number: 0 where it gives
@@ -39,3 +39,9 @@ bytesLeft lay reply after before words = cond (leb (length (valuesOf lay reply))
 -- how a number is laid out: one word
 abbrev pub layNumber : ℕ → List ℕ
 layNumber n = n ∷ []
+
+-- the words begin with these values
+unfoldable pub begins : List ℕ → List ℕ → Bool
+begins [] words = true
+begins (v ∷ values) [] = false
+begins (v ∷ values) (w ∷ words) = eqb w v && begins values words

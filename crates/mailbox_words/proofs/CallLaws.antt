@@ -1,50 +1,21 @@
 -- The laws of a call on a mailbox in lent words, over any call and any answer. Assumes nothing.
-use mathlib.Core.Bool.{Bool, true, false, _&&_}
+use mathlib.Core.Bool.{Bool, true, false}
 use mathlib.Core.Path.{_≡_, refl, sym, ap, subst, _∙_}
-use mathlib.Core.List.{List, [], _∷_}
-use Prim.Native.Nat.{ℕ, suc, _+_, _≤_, _<_}
-use native.Mathlib.Omega.{arith}
-use lib.ListN.{length, getD, drop, drop-of-length-le}
-use lib.Seq.{drop-cons}
-use lib.Dec.{eqb}
-use borrow.Author.Tests.{eq-eqb, ne-eqb, le-leb, lt-leb}
+use mathlib.Core.List.{List}
+use Prim.Native.Nat.{ℕ, _≤_, _<_}
+use lib.ListN.{length}
+use borrow.Author.Tests.{le-leb, lt-leb}
 use Rattle.reply.specs.Reply.{Reply}
-use Rattle.lent.specs.Lent.{numberFor, wordsFor}
+use Rattle.lent.specs.Lent.{numberFor, wordsFor, begins}
 use Rattle.lent.proofs.Laws.{number-fits}
 use Rattle.mailbox.specs.declared.Mailbox.{Mailbox}
 use Rattle.mailbox.specs.Calls.{After}
 use Rattle.mailbox_words.specs.Layout.{packOf, unpackOf}
-use Rattle.mailbox_words.specs.Calls.{sameOf, heldIn, Left, left, leftWith, leftBy, callOn}
+use Rattle.mailbox_words.specs.Calls.{heldIn, Left, left, leftWith, leftBy, callOn}
 
--- ---- words that begin with others, word by word
-pub same-less : (first words : List ℕ) → length words < length first → false ≡ sameOf first words
-unfolding sameOf
-same-less [] words p = absurd (omega arith)
-same-less (x ∷ first) [] p = refl
-same-less (x ∷ first) (y ∷ words) p = go (eqb x y) (same-less first words (omega arith))
-  where
-    go : (b : Bool) → false ≡ sameOf first words → false ≡ b && sameOf first words
-    go true e = e
-    go false e = refl
-
-module _ (first words : List ℕ) (i : ℕ) (long : length first ≤ length words) (s : Bool) (inv : s ≡ sameOf (drop i first) (drop i words)) where
-  pub same-pass : i < length first → getD words i 0 ≡ getD first i 0 → s ≡ sameOf (drop (i + 1) first) (drop (i + 1) words)
-  unfolding sameOf
-  same-pass p e =
-      let one : i + 1 ≡ suc i = omega arith in
-      rw (inv, one, drop-cons first i 0 p, drop-cons words i 0 (omega arith), eq-eqb (getD first i 0) (getD words i 0) (sym e))
-
-  pub same-stop : i < length first → (getD words i 0 ≡ getD first i 0 → ⊥) → false ≡ s
-  unfolding sameOf
-  same-stop p e = rw (inv, drop-cons first i 0 p, drop-cons words i 0 (omega arith), ne-eqb (getD first i 0) (getD words i 0) (λ q. e (sym q)))
-
-  pub same-end : length first ≤ i → true ≡ s
-  unfolding sameOf
-  same-end p = rw (inv, drop-of-length-le first p)
-
-pub held-is : (ws again : List ℕ) (m : Mailbox) (b : Bool) → m ≡ unpackOf ws → again ≡ packOf m → b ≡ sameOf again ws → b ≡ heldIn ws
+pub held-is : (ws again : List ℕ) (m : Mailbox) (b : Bool) → m ≡ unpackOf ws → again ≡ packOf m → b ≡ begins again ws → b ≡ heldIn ws
 unfolding heldIn
-held-is ws again m b e q h = h ∙ ap (λ l. sameOf l ws) (q ∙ ap packOf e)
+held-is ws again m b e q h = h ∙ ap (λ l. begins l ws) (q ∙ ap packOf e)
 
 -- ---- what is left
 module _ (gives : List ℕ) (m : Mailbox) (ws vs : List ℕ) where

@@ -1,33 +1,28 @@
 -- A call on the words of a mailbox is the mailbox's own, proved. Assumes nothing.
 use mathlib.Core.Bool.{true}
 use mathlib.Core.Path.{_≡_, refl, sym, ap, subst, _∙_}
-use mathlib.Core.List.{List, [], _∷_, _++_}
+use mathlib.Core.List.{List, _++_}
 use Prim.Native.Nat.{ℕ, _+_, _<_}
 use native.Mathlib.Omega.{arith}
 use lib.ListN.{length, drop, length-append}
 use lib.Seq.{drop-append-seam}
 use lib.Dec.{leb}
-use borrow.Author.Tests.{eq-eqb, le-leb}
+use borrow.Author.Tests.{le-leb}
 use Rattle.reply.specs.Reply.{Reply, given, refused, guard}
 use Rattle.lent.specs.Lent.{numberOf, wordsFor}
 use Rattle.lent.proofs.Laws.{words-fits}
+use Rattle.lent.proofs.Begins.{begins-front}
 use Rattle.mailbox.specs.declared.Mailbox.{Mailbox}
 use Rattle.mailbox.specs.Machine.{stateOf, isFree, joined}
 use Rattle.mailbox.specs.Consistent.{consistentOf}
 use Rattle.mailbox.specs.Calls.{After, after, leaves, accepted, loadedFrom, turnedFrom, unloadedFrom, takenFrom, postOf, loadOf, turnOf, unloadOf, takeOf}
 use Rattle.mailbox_words.specs.Layout.{packOf}
-use Rattle.mailbox_words.specs.Calls.{layAccepted, layActed, layWord, sameOf, heldIn, Left, leftWith, leftBy, callOn, postOn, loadOn, turnOn, unloadOn, takeOn}
+use Rattle.mailbox_words.specs.Calls.{layAccepted, layActed, layWord, heldIn, Left, leftWith, leftBy, callOn, postOn, loadOn, turnOn, unloadOn, takeOn}
 use Rattle.mailbox_words.specs.Typed.{Typed}
 use Rattle.mailbox_words.specs.Faithful.{Room, valuesAfter, Through, AllFaithful}
 use Rattle.mailbox_words.proofs.LayoutLaws.{length-pack}
 use Rattle.mailbox_words.proofs.TypedLaws.{fresh-typed, post-typed, load-typed, turn-typed, unload-typed, take-typed}
 use Rattle.mailbox_words.proofs.Back.{back}
-
--- words that stand in front are found there
-same-front : (l behind : List ℕ) → sameOf l (l ++ behind) ≡ true
-unfolding sameOf
-same-front [] behind = refl
-same-front (x ∷ l) behind = rw (eq-eqb x x refl, same-front l behind)
 
 -- a mailbox's words after a mailbox's words
 front-packed : (m n : Mailbox) (behind : List ℕ) → wordsFor (packOf n) (packOf m ++ behind) ≡ packOf n ++ behind
@@ -41,7 +36,7 @@ front-packed m n behind =
 module _ {A : Type 0} (lay : A → List ℕ) (call : Mailbox → After (Reply A)) (m : Mailbox) (k : Typed m) (x : Reply (After A)) (is : call m ≡ leaves m x) (typed : Typed (call m .mailbox)) where
   held : (behind : List ℕ) → heldIn (packOf m ++ behind) ≡ true
   unfolding heldIn
-  held behind = rw (back m k behind) (same-front (packOf m) behind)
+  held behind = rw (back m k behind) (begins-front (packOf m) behind)
 
   on : (behind values : List ℕ) → callOn lay call (packOf m ++ behind) values ≡ leftBy lay (leaves m x .mailbox) (leaves m x .answer) (packOf m ++ behind) values
   unfolding callOn

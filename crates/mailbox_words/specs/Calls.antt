@@ -1,25 +1,19 @@
 -- The calls on a mailbox in lent words: what each answers, and what it leaves in the words and in the values' words. Assumes nothing: these are definitions.
-use mathlib.Core.Bool.{Bool, true, false, cond, _&&_}
+use mathlib.Core.Bool.{Bool, cond}
 use mathlib.Core.List.{List, [], _∷_}
 use Prim.Native.Nat.{ℕ}
 use lib.ListN.{length}
-use lib.Dec.{eqb, leb}
+use lib.Dec.{leb}
 use Rattle.reply.specs.Reply.{Reply, given, refused}
-use Rattle.lent.specs.Lent.{wordsFor}
+use Rattle.lent.specs.Lent.{wordsFor, begins}
 use Rattle.mailbox.specs.declared.Mailbox.{Mailbox}
 use Rattle.mailbox.specs.Machine.{freshMailbox}
 use Rattle.mailbox.specs.Calls.{After, Accepted, postOf, loadOf, turnOf, unloadOf, takeOf}
 use Rattle.mailbox_words.specs.Layout.{bitOf, packOf, unpackOf}
 
--- the words begin with these
-unfoldable pub sameOf : (first words : List ℕ) → Bool
-sameOf [] words = true
-sameOf (x ∷ first) [] = false
-sameOf (x ∷ first) (y ∷ words) = eqb x y && sameOf first words
-
 -- the words begin with a mailbox's: what is read from them, packed again, stands there
 unfoldable pub heldIn : List ℕ → Bool
-heldIn words = sameOf (packOf (unpackOf words)) words
+heldIn words = begins (packOf (unpackOf words)) words
 
 -- what an answer gives, as values: nothing for accepted, 1 for yes and 0 for no, the word that is taken
 abbrev pub layAccepted : Accepted → List ℕ

@@ -6,7 +6,7 @@ ghost use Rattle.lent.specs.Lent.{numberFor, wordsFor};
 ghost use Rattle.mailbox.specs.Calls.{toldPosted, toldActed, toldTaken};
 ghost use Rattle.mailbox_words.specs.Layout.{upTo, bitOf, kindWord, callerWord, wordWord, partWord, postWord, placeWord, interruptWord, headOf, wordIn, packOf};
 ghost use Rattle.mailbox_words.specs.Layout.{phaseFrom, partFrom, postFrom, placeFrom, interruptFrom, postAt, placeAt, interruptAt, firmwareFrom, unpackOf};
-ghost use Rattle.mailbox_words.specs.Calls.{sameOf, heldIn, layAccepted, layActed, layWord, leftWith, leftBy, freshWords, postOn, loadOn, turnOn, unloadOn, takeOn};
+ghost use Rattle.mailbox_words.specs.Calls.{heldIn, layAccepted, layActed, layWord, leftWith, leftBy, freshWords, postOn, loadOn, turnOn, unloadOn, takeOn};
 use firmware::Descriptor;
 use firmware::Firmware;
 use firmware::Interrupt;
@@ -369,30 +369,12 @@ fn unpack(words: &[u64]) -> Mailbox
     }
 }
 
-// Whether the lent words begin with these.
-fn begin_with(words: &[u64], first: &[u64]) -> bool
-    ensures { λ r. ⌜ r ≡ sameOf (now (first .entry)) (now (words .entry)) ⌝ }
-{
-    if words.len() < first.len() {
-        return false;
-    }
-    let mut i: usize = 0;
-    while i < first.len() {
-        if words[i] == first[i] {
-            i = i + 1;
-        } else {
-            return false;
-        }
-    }
-    true
-}
-
 // Whether the lent words begin with a mailbox's.
 fn holds(words: &[u64]) -> bool
     ensures { λ r. ⌜ r ≡ heldIn (now (words .entry)) ⌝ }
 {
     let again = pack(unpack(words));
-    begin_with(words, &again)
+    lent::begin_with(words, &again)
 }
 
 // A mailbox and the values that are given, into the lent words.

@@ -12,9 +12,6 @@ use reply::Refusal;
 use window::Offset;
 use window::Physical;
 
-// The largest total of a directory.
-const LIMIT: u32 = 512;
-
 // The directory at a place, its level by its cookie.
 pub fn check_at(image: &[u8], place: usize) -> Checked
     ensures { λ r. ⌜ toldDirectory r ≡ placedAt base (now (image .entry)) place ⌝ }
@@ -28,7 +25,7 @@ pub fn check_at(image: &[u8], place: usize) -> Checked
     if image.len() < place {
         return Checked::Refused(Refusal::OUTSIDE);
     }
-    directory::directory_by_cookie(image, directory::psp(), LIMIT, Offset(place as u32))
+    directory::directory_by_cookie(image, directory::psp(), flash::LIMIT, Offset(place as u32))
 }
 
 // Entry i of the directory at a place.

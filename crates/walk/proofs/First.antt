@@ -1,11 +1,11 @@
 -- The lookup in the whole image answers the first match in the order of the walk. Assumes nothing.
 use mathlib.Core.Path.{_≡_, refl, sym, ap, _∙_}
 use mathlib.Core.List.{List, [], _∷_, _++_, append-assoc, append-nil}
-use mathlib.Core.Bool.{Bool, true, false, cond}
+use mathlib.Core.Bool.{Bool, true, false}
 use Prim.Native.Nat.{ℕ, _+_}
 use native.Mathlib.Omega.{arith}
 use Rattle.reply.specs.Reply.{Reply, Carried, given, refused, alone, tested}
-use Rattle.reply.proofs.ReplyLaws.{one-by}
+use Rattle.reply.proofs.ReplyLaws.{one-by, apart}
 use Rattle.directory.specs.Entry.{entryOf, matchOf}
 use Rattle.directory.specs.Good.{Matches}
 use Rattle.directory.specs.declared.Kind.{Kind}
@@ -65,7 +65,7 @@ module _ (kind : Kind) (s : List ℕ) (type sub : ℕ) where
     where
       by : (b : Bool) → matchOf (entryOf kind s d i) type sub ≡ b → (Quiet kind s type sub (xs ++ (test d i ∷ [])) → Answered kind s type sub steps (firstIn kind s type sub steps 0)) → Answered kind s type sub steps (firstIn kind s type sub steps 0)
       by true m next = let h = match-holds (entryOf kind s d i) type sub m in matched xs ys d i e q h (ap (λ (l : List Step). firstIn kind s type sub l 0) e ∙ at-match xs ys d i q h)
-      by false m next = next (quiet-append xs (test d i ∷ []) q ((λ h. let y = match-says (entryOf kind s d i) type sub h in let z : _≡_ {A = ℕ} 0 1 = cc in omega arith), tt))
+      by false m next = next (quiet-append xs (test d i ∷ []) q ((λ h. apart (match-says (entryOf kind s d i) type sub h) m), tt))
   answer steps xs (fault number carried ∷ ys) e q = faulty xs ys number carried e q (ap (λ (l : List Step). firstIn kind s type sub l 0) e ∙ at-fault xs ys number carried q)
 
   answered : (steps : List Step) → Answered kind s type sub steps (firstIn kind s type sub steps 0)

@@ -1,4 +1,4 @@
--- What the walk's inner functions promise of one entry; the lookup's definition does not need it. Assumes nothing: these are definitions.
+-- What the walk's inner functions promise of one entry: cited by private contracts alone, so a reader may skip it. Assumes nothing: these are definitions.
 use Prim.Native.Nat.{ℕ, _+_, _*_, _^_, _≤_}
 use mathlib.Core.List.{List}
 use mathlib.Core.Bool.{cond}

@@ -1,33 +1,40 @@
 use Rattle.aspt.proofs.Checks.{header-by, holds, fails}
-use mathlib.Core.Path.{refl}
-use mathlib.Core.Bool.{true, false}
+use mathlib.Core.Path.{_≡_, refl, sym, _∙_}
+use mathlib.Core.Bool.{Bool, true, false, _&&_}
+use Prim.Native.Nat.{ℕ, _+_, _*_, _%_, _^_}
+use lib.Dec.{eqb, leb}
 use borrow.Author.Needs.{needs}
 use Rattle.aspt.proofs.check_header.Statement.{statement}
 use Rattle.aspt.proofs.check_header.Tie as tie
+
+-- the test of the register space, at what was read
+space : {read-base read-pages base pages : ℕ} {fits told : Bool} → read-base ≡ base → read-pages ≡ pages → fits ≡ (eqb (read-base % 4096) 0 && leb (read-base + 4096 * read-pages) (2 ^ 64)) → fits ≡ told →
+    (eqb (base % 4096) 0 && leb (base + 4096 * pages) (2 ^ 64)) ≡ told
+space b p e t = (λ i. eqb (sym b i % 4096) 0 && leb (sym b i + 4096 * sym p i) (2 ^ 64)) ∙ sym e ∙ t
 
 u32-at-requires : tie.Need-u32-at-requires
 u32-at-requires c κs = search needs
 
 returns : tie.Need-returns
-returns c = header-by _ _ false _ _ _ _ _ (search fails) refl refl refl refl refl
+returns c = header-by _ _ false _ _ _ _ _ (fails _ _ 0x54505341 (c .before .u32-at .ensures) (c .if1 .taken)) refl refl refl refl refl
 
 u32-at-requires-2 : tie.Need-u32-at-requires-2
 u32-at-requires-2 c κs = search needs
 
 returns-2 : tie.Need-returns-2
-returns-2 c = header-by _ _ true false _ _ _ _ (search holds) (search fails) refl refl refl refl
+returns-2 c = header-by _ _ true false _ _ _ _ (holds _ _ 0x54505341 (c .before .before .before .u32-at .ensures) (c .before .before .if1 .left)) (fails _ _ 112 (c .before .u32-at2 .ensures) (c .if2 .taken)) refl refl refl refl
 
 byte-at-requires : tie.Need-byte-at-requires
 byte-at-requires c κs = search needs
 
 returns-3 : tie.Need-returns-3
-returns-3 c = header-by _ _ true true false _ _ _ (search holds) (search holds) (search fails) refl refl refl
+returns-3 c = header-by _ _ true true false _ _ _ (holds _ _ 0x54505341 (c .before .before .before .before .before .u32-at .ensures) (c .before .before .before .before .if1 .left)) (holds _ _ 112 (c .before .before .before .u32-at2 .ensures) (c .before .before .if2 .left)) (fails _ _ 2 (c .before .byte-at .ensures) (c .if3 .taken)) refl refl refl
 
 byte-sum-requires : tie.Need-byte-sum-requires
 byte-sum-requires c κs = search needs
 
 returns-4 : tie.Need-returns-4
-returns-4 c = header-by _ _ true true true false _ _ (search holds) (search holds) (search holds) (search fails) refl refl
+returns-4 c = header-by _ _ true true true false _ _ (holds _ _ 0x54505341 (c .before .before .before .before .before .before .before .u32-at .ensures) (c .before .before .before .before .before .before .if1 .left)) (holds _ _ 112 (c .before .before .before .before .before .u32-at2 .ensures) (c .before .before .before .before .if2 .left)) (holds _ _ 2 (c .before .before .before .byte-at .ensures) (c .before .before .if3 .left)) (fails _ _ 0 (c .before .byte-sum .ensures) (c .if4 .taken)) refl refl
 
 u64-at-requires : tie.Need-u64-at-requires
 u64-at-requires c κs = search needs
@@ -42,13 +49,13 @@ u32-at-requires-4 : tie.Need-u32-at-requires-4
 u32-at-requires-4 c κs = search needs
 
 returns-5 : tie.Need-returns-5
-returns-5 c = header-by _ _ true true true true true true (search holds) (search holds) (search holds) (search holds) (cc) (search holds)
+returns-5 c = header-by _ _ true true true true true true (holds _ _ 0x54505341 (c .before .before .before .before .before .before .before .before .before .before .before .before .before .u32-at .ensures) (c .before .before .before .before .before .before .before .before .before .before .before .before .if1 .left)) (holds _ _ 112 (c .before .before .before .before .before .before .before .before .before .before .before .u32-at2 .ensures) (c .before .before .before .before .before .before .before .before .before .before .if2 .left)) (holds _ _ 2 (c .before .before .before .before .before .before .before .before .before .byte-at .ensures) (c .before .before .before .before .before .before .before .before .if3 .left)) (holds _ _ 0 (c .before .before .before .before .before .before .before .byte-sum .ensures) (c .before .before .before .before .before .before .if4 .left)) (space (c .before .before .before .before .before .u64-at .ensures) (c .before .before .before .before .u32-at3 .ensures) (c .before .before .before .space-fits .ensures) (c .before .before .if5 .taken)) (holds _ _ 3 (c .before .u32-at4 .ensures) (c .if6 .taken))
 
 returns-6 : tie.Need-returns-6
-returns-6 c = header-by _ _ true true true true true false (search holds) (search holds) (search holds) (search holds) (cc) (search fails)
+returns-6 c = header-by _ _ true true true true true false (holds _ _ 0x54505341 (c .before .before .before .before .before .before .before .before .before .before .before .before .before .u32-at .ensures) (c .before .before .before .before .before .before .before .before .before .before .before .before .if1 .left)) (holds _ _ 112 (c .before .before .before .before .before .before .before .before .before .before .before .u32-at2 .ensures) (c .before .before .before .before .before .before .before .before .before .before .if2 .left)) (holds _ _ 2 (c .before .before .before .before .before .before .before .before .before .byte-at .ensures) (c .before .before .before .before .before .before .before .before .if3 .left)) (holds _ _ 0 (c .before .before .before .before .before .before .before .byte-sum .ensures) (c .before .before .before .before .before .before .if4 .left)) (space (c .before .before .before .before .before .u64-at .ensures) (c .before .before .before .before .u32-at3 .ensures) (c .before .before .before .space-fits .ensures) (c .before .before .if5 .taken)) (fails _ _ 3 (c .before .u32-at4 .ensures) (c .if6 .left))
 
 returns-7 : tie.Need-returns-7
-returns-7 c = header-by _ _ true true true true false _ (search holds) (search holds) (search holds) (search holds) (cc) refl
+returns-7 c = header-by _ _ true true true true false _ (holds _ _ 0x54505341 (c .before .before .before .before .before .before .before .before .before .before .before .u32-at .ensures) (c .before .before .before .before .before .before .before .before .before .before .if1 .left)) (holds _ _ 112 (c .before .before .before .before .before .before .before .before .before .u32-at2 .ensures) (c .before .before .before .before .before .before .before .before .if2 .left)) (holds _ _ 2 (c .before .before .before .before .before .before .before .byte-at .ensures) (c .before .before .before .before .before .before .if3 .left)) (holds _ _ 0 (c .before .before .before .before .before .byte-sum .ensures) (c .before .before .before .before .if4 .left)) (space (c .before .before .before .u64-at .ensures) (c .before .before .u32-at3 .ensures) (c .before .space-fits .ensures) (c .if5 .left)) refl
 
 pub check-header-spec : {M : Type 1} → statement M
 check-header-spec =

@@ -1,8 +1,10 @@
 use Rattle.le.proofs.Numbers.{puts-all}
+use Rattle.aspt.proofs.Written.{put-next}
 use Rattle.aspt.specs.Bytes.{identityFields}
 use Rattle.le.specs.Le.{leBytes, bytesOf}
 use denote.Ref.{now}
 use native.Mathlib.Omega.{arith}
+use mathlib.Core.Path.{_∙_}
 use borrow.Author.Needs.{needs}
 use Rattle.aspt.proofs.put_identity.Statement.{statement}
 use Rattle.aspt.proofs.put_identity.Tie as tie
@@ -24,7 +26,10 @@ same-length c = search needs
 
 returns : tie.Need-returns
 unfolding bytesOf leBytes
-returns c = cc (puts-all (identityFields 0) (now (c .before .before .before .before .before .before .before .before .before .before .before .before .before .before .before .before .before .args .buf)) 0 (omega arith))
+returns c =
+    let a = c .before .before .before .before .before .before .before .before .before .before .before .before .before .before .before .before .before .args in
+    put-next _ _ (c .before .before .put82 .ensures) (put-next _ _ (c .before .before .before .before .before .before .put8 .ensures) (put-next _ _ (c .before .before .before .before .before .before .before .before .before .before .put322 .ensures) (c .before .before .before .before .before .before .before .before .before .before .before .before .before .before .put32 .ensures)))
+    ∙ puts-all (identityFields 0) (now (a .buf)) 0 (omega (arith, c .before .before .before .before .before .before .before .before .before .before .before .before .before .before .before .before .before .pre))
 
 pub put-identity-spec : {M : Type 1} → statement M
 put-identity-spec =

@@ -1,8 +1,10 @@
 use Rattle.le.proofs.Numbers.{puts-all}
+use Rattle.aspt.proofs.Written.{put-next}
 use Rattle.aspt.specs.Bytes.{makerFields}
 use Rattle.le.specs.Le.{leBytes, bytesOf}
 use denote.Ref.{now}
 use native.Mathlib.Omega.{arith}
+use mathlib.Core.Path.{_∙_}
 use borrow.Author.Needs.{needs}
 use Rattle.aspt.proofs.put_maker.Statement.{statement}
 use Rattle.aspt.proofs.put_maker.Tie as tie
@@ -32,7 +34,8 @@ returns : tie.Need-returns
 unfolding bytesOf leBytes
 returns c =
     let a = c .before .before .before .before .before .before .before .before .before .before .before .before .before .before .before .before .before .before .before .before .before .before .before .before .before .args in
-    cc (puts-all (makerFields (a .table)) (now (a .buf)) 10 (omega (arith, c .before .before .before .before .before .before .before .before .before .before .before .before .before .before .before .before .before .before .before .before .before .before .before .before .before .pre)))
+    put-next _ _ (c .before .before .put324 .ensures) (put-next _ _ (c .before .before .before .before .before .before .put323 .ensures) (put-next _ _ (c .before .before .before .before .before .before .before .before .before .before .put322 .ensures) (put-next _ _ (c .before .before .before .before .before .before .before .before .before .before .before .before .before .before .put64 .ensures) (put-next _ _ (c .before .before .before .before .before .before .before .before .before .before .before .before .before .before .before .before .before .before .put16 .ensures) (c .before .before .before .before .before .before .before .before .before .before .before .before .before .before .before .before .before .before .before .before .before .before .put32 .ensures)))))
+    ∙ puts-all (makerFields (a .table)) (now (a .buf)) 10 (omega (arith, c .before .before .before .before .before .before .before .before .before .before .before .before .before .before .before .before .before .before .before .before .before .before .before .before .before .pre))
 
 pub put-maker-spec : {M : Type 1} → statement M
 put-maker-spec =

@@ -1,8 +1,10 @@
 use Rattle.le.proofs.Numbers.{puts-all}
+use Rattle.aspt.proofs.Written.{put-next}
 use Rattle.aspt.specs.Bytes.{spaceFields}
 use Rattle.le.specs.Le.{leBytes, bytesOf}
 use denote.Ref.{now}
 use native.Mathlib.Omega.{arith}
+use mathlib.Core.Path.{_∙_}
 use borrow.Author.Needs.{needs}
 use Rattle.aspt.proofs.put_space.Statement.{statement}
 use Rattle.aspt.proofs.put_space.Tie as tie
@@ -23,7 +25,8 @@ returns : tie.Need-returns
 unfolding bytesOf leBytes
 returns c =
     let a = c .before .before .before .before .before .before .before .before .before .before .before .before .before .args in
-    cc (puts-all (spaceFields (a .table)) (now (a .buf)) 36 (omega (arith, c .before .before .before .before .before .before .before .before .before .before .before .before .before .pre)))
+    put-next _ _ (c .before .before .put322 .ensures) (put-next _ _ (c .before .before .before .before .before .before .put32 .ensures) (c .before .before .before .before .before .before .before .before .before .before .put64 .ensures))
+    ∙ puts-all (spaceFields (a .table)) (now (a .buf)) 36 (omega (arith, c .before .before .before .before .before .before .before .before .before .before .before .before .before .pre))
 
 pub put-space-spec : {M : Type 1} → statement M
 put-space-spec =

@@ -1,5 +1,6 @@
 use Rattle.le.proofs.Laws.{byte-le}
 use denote.Ref.{now}
+use mathlib.Core.Path.{_∙_}
 use borrow.Author.Needs.{needs}
 use Rattle.aspt.proofs.structure_in.Statement.{statement}
 use Rattle.aspt.proofs.structure_in.Tie as tie
@@ -20,7 +21,15 @@ u32-at-requires-3 : tie.Need-u32-at-requires-3
 u32-at-requires-3 c κs = search needs
 
 returns : tie.Need-returns
-returns c = cc (byte-le (now (c .before .before .before .before .before .before .args .part)) 4)
+returns c =
+    let id = c .before .before .before .byte-at .ensures ∙ byte-le (now (c .before .before .before .before .before .before .args .part)) 4 in
+    λ i. record {
+      kind = c .before .before .before .before .u16-at .ensures i;
+      id = id i;
+      first = c .before .before .u32-at .ensures i;
+      second = c .before .u32-at2 .ensures i;
+      third = c .u32-at3 .ensures i;
+    }
 
 pub structure-in-spec : {M : Type 1} → statement M
 structure-in-spec =

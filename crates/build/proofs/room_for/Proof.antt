@@ -9,8 +9,11 @@ returns c = search room-cases
 returns-2 : tie.Need-returns-2
 returns-2 c = search room-cases
 
-placed-requires : tie.Need-placed-requires
-placed-requires c κs = search needs
+psp-requires : tie.Need-psp-requires
+psp-requires c κs = search needs
+
+may-stand-requires : tie.Need-may-stand-requires
+may-stand-requires c κs = search needs
 
 returns-3 : tie.Need-returns-3
 returns-3 c = search room-cases
@@ -30,8 +33,8 @@ add-if5-2 c = search needs
 returns-4 : tie.Need-returns-4
 returns-4 c = search room-cases
 
-add-t16 : tie.Need-add-t16
-add-t16 c = search needs
+add-t17 : tie.Need-add-t17
+add-t17 c = search needs
 
 returns-5 : tie.Need-returns-5
 returns-5 c = search room-cases
@@ -45,13 +48,14 @@ room-for-spec =
     (tie.spec
     returns
     returns-2
-    placed-requires
+    psp-requires
+    may-stand-requires
     returns-3
     cast-if5
     mul-if5
     add-if5
     add-if5-2
     returns-4
-    add-t16
+    add-t17
     returns-5
     returns-6)

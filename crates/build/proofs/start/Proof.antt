@@ -15,6 +15,9 @@ returns-2 c = let e = start-above _ _ (c .before .if1 .left) (c .if2 .taken) in 
 returns-3 : tie.Need-returns-3
 returns-3 c = let e = start-short _ (now (c .before .before .before .before .args .buf)) (c .before .before .if1 .left) (c .before .if2 .left) (c .if3 .taken) in (e, ap (startedBy _ _) e)
 
+psp-requires : tie.Need-psp-requires
+psp-requires c κs = search needs
+
 cookie-requires : tie.Need-cookie-requires
 cookie-requires c κs = search needs
 
@@ -43,6 +46,7 @@ start-spec =
     returns
     returns-2
     returns-3
+    psp-requires
     cookie-requires
     put32-requires
     put32-requires-2

@@ -1,14 +1,9 @@
-use borrow.Author.Tests.{le-leb, lt-leb, eq-eqb, ne-eqb}
-use mathlib.Core.Path.{_≡_, ap, _∙_}
-use Prim.Native.Nat.{ℕ, _+_, _*_, _^_, _≤_}
+use borrow.Author.Tests.{lt-leb}
+use Prim.Native.Nat.{_*_, _^_, _≤_}
 use native.Mathlib.Nat.{mul-le-mul}
 use native.Mathlib.Omega.{arith}
-use lib.ListN.{length}
-use lib.Dec.{eqb}
-use denote.Ref.{now}
-use Rattle.le.specs.Le.{leAt}
-use Rattle.reply.specs.Reply.{guard}
-use Rattle.directory.specs.Directory.{cookieOf, checksumAt, entriesAt, directoryAt}
+use Rattle.directory.specs.Directory.{directoryAt}
+use Rattle.directory.proofs.Cases.{at-signature, at-limits, at-cut, at-sealed}
 use borrow.Author.Needs.{needs}
 use Rattle.directory.proofs.directory_at.Statement.{statement}
 use Rattle.directory.proofs.directory_at.Tie as tie
@@ -30,12 +25,7 @@ cookie-requires : tie.Need-cookie-requires
 cookie-requires c κs = search needs
 
 returns-2 : tie.Need-returns-2
-unfolding directoryAt
-returns-2 c =
-    let a = c .before .before .before .before .before .before .args in
-    let s = now (a .image) in
-    let o = a .at .0 in
-    simp (le-leb (o + 16) (length s) (omega arith), ne-eqb (leAt 4 s o) (cookieOf (a .kind) (a .level)) (λ e. c .if2 .taken (cc)))
+returns-2 c = at-signature _ _ _ _ _ (c .before .before .u32-at .ensures) (c .before .before .before .if1 .left) _ _ (c .before .cookie .ensures) (c .if2 .taken)
 
 add-u32-at : tie.Need-add-u32-at
 add-u32-at c = search needs
@@ -44,12 +34,7 @@ u32-at-requires-2 : tie.Need-u32-at-requires-2
 u32-at-requires-2 c κs = search needs
 
 returns-3 : tie.Need-returns-3
-unfolding directoryAt
-returns-3 c =
-    let a = c .before .before .before .before .before .before .before .before .args in
-    let s = now (a .image) in
-    let o = a .at .0 in
-    simp (le-leb (o + 16) (length s) (omega arith), eq-eqb (leAt 4 s o) (cookieOf (a .kind) (a .level)) (cc), lt-leb (leAt 4 s (o + 8)) (a .limit) (omega arith))
+returns-3 c = at-limits _ _ _ _ _ (c .before .before .before .before .u32-at .ensures) (c .before .before .before .before .before .if1 .left) _ _ (c .before .before .before .cookie .ensures) (c .before .before .if2 .left) _ (c .before .u32-at2 .ensures) (c .if3 .taken)
 
 cast-size : tie.Need-cast-size
 cast-size c = search needs
@@ -70,29 +55,13 @@ add-if4-2 : tie.Need-add-if4-2
 add-if4-2 c = omega (arith, small c)
 
 returns-4 : tie.Need-returns-4
-unfolding directoryAt
-returns-4 c =
-    let a = c .before .before .before .before .before .before .before .before .before .before .args in
-    let s = now (a .image) in
-    let o = a .at .0 in
-    let n = leAt 4 s (o + 8) in
-    let e : c .before .before .before .u32-at2 .result * a .kind .entry ≡ n * a .kind .entry = ap (λ (j : ℕ). j * a .kind .entry) (c .before .before .before .u32-at2 .ensures) in
-    simp (le-leb (o + 16) (length s) (omega arith), eq-eqb (leAt 4 s o) (cookieOf (a .kind) (a .level)) (cc), le-leb n (a .limit) (omega arith), lt-leb (o + 16 + n * a .kind .entry) (length s) (omega (arith, e)))
+returns-4 c = at-cut _ _ _ _ _ (c .before .before .before .before .before .before .u32-at .ensures) (c .before .before .before .before .before .before .before .if1 .left) _ _ (c .before .before .before .before .before .cookie .ensures) (c .before .before .before .before .if2 .left) _ (c .before .before .before .u32-at2 .ensures) (c .before .before .if3 .left) (c .if4 .taken)
 
 sealed-requires : tie.Need-sealed-requires
 sealed-requires c κs = search needs
 
 returns-5 : tie.Need-returns-5
-unfolding directoryAt
-returns-5 c =
-    let a = c .before .before .before .before .before .before .before .before .before .before .before .args in
-    let s = now (a .image) in
-    let o = a .at .0 in
-    let n = leAt 4 s (o + 8) in
-    let t = c .before .before .before .before .u32-at2 in
-    let e : t .result * a .kind .entry ≡ n * a .kind .entry = ap (λ (j : ℕ). j * a .kind .entry) (t .ensures) in
-    simp (le-leb (o + 16) (length s) (omega arith), eq-eqb (leAt 4 s o) (cookieOf (a .kind) (a .level)) (cc), le-leb n (a .limit) (omega arith), le-leb (o + 16 + n * a .kind .entry) (length s) (omega (arith, e)))
-    (c .sealed .ensures ∙ ap (λ (m : ℕ). guard (eqb (leAt 4 s (o + 4)) (checksumAt (a .kind) s o m)) 4 (guard (eqb (leAt 4 s (o + 12)) 0) 5 (entriesAt (a .kind) (a .level) s o m))) (t .ensures))
+returns-5 c = at-sealed _ _ _ _ _ (c .before .before .before .before .before .before .before .u32-at .ensures) (c .before .before .before .before .before .before .before .before .if1 .left) _ _ (c .before .before .before .before .before .before .cookie .ensures) (c .before .before .before .before .before .if2 .left) _ (c .before .before .before .before .u32-at2 .ensures) (c .before .before .before .if3 .left) (c .before .if4 .left) _ (c .sealed .ensures)
 
 pub directory-at-spec : {M : Type 1} → statement M
 directory-at-spec =

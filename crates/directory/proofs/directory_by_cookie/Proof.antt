@@ -1,11 +1,6 @@
-use borrow.Author.Tests.{le-leb, lt-leb, eq-eqb, ne-eqb}
-use mathlib.Core.Path.{_≡_}
-use Prim.Native.Nat.{_+_}
-use native.Mathlib.Omega.{arith}
-use lib.ListN.{length}
-use denote.Ref.{now}
-use Rattle.le.specs.Le.{leAt}
+use borrow.Author.Tests.{lt-leb}
 use Rattle.directory.specs.Directory.{directoryByCookie}
+use Rattle.directory.proofs.Cases.{by-one, by-two, by-neither}
 use borrow.Author.Needs.{needs}
 use Rattle.directory.proofs.directory_by_cookie.Statement.{statement}
 use Rattle.directory.proofs.directory_by_cookie.Tie as tie
@@ -27,31 +22,16 @@ directory-at-requires : tie.Need-directory-at-requires
 directory-at-requires c κs = search needs
 
 returns-2 : tie.Need-returns-2
-unfolding directoryByCookie
-returns-2 c =
-    let a = c .before .before .before .before .before .before .before .args in
-    let s = now (a .image) in
-    let o = a .at .0 in
-    simp (le-leb (o + 16) (length s) (omega arith), eq-eqb (leAt 4 s o) (a .kind .one) (cc)) (c .directory-at .ensures)
+returns-2 c = by-one _ _ _ _ _ (c .before .before .before .u32-at .ensures) (c .before .before .before .before .if1 .left) (c .before .if2 .taken) _ (c .directory-at .ensures)
 
 directory-at-requires-2 : tie.Need-directory-at-requires-2
 directory-at-requires-2 c κs = search needs
 
 returns-3 : tie.Need-returns-3
-unfolding directoryByCookie
-returns-3 c =
-    let a = c .before .before .before .before .before .before .before .before .before .args in
-    let s = now (a .image) in
-    let o = a .at .0 in
-    simp (le-leb (o + 16) (length s) (omega arith), ne-eqb (leAt 4 s o) (a .kind .one) (λ e. c .before .before .before .if2 .left (cc)), eq-eqb (leAt 4 s o) (a .kind .two) (cc)) (c .directory-at2 .ensures)
+returns-3 c = by-two _ _ _ _ _ (c .before .before .before .before .before .u32-at .ensures) (c .before .before .before .before .before .before .if1 .left) (c .before .before .before .if2 .left) (c .before .if3 .taken) _ (c .directory-at2 .ensures)
 
 returns-4 : tie.Need-returns-4
-unfolding directoryByCookie
-returns-4 c =
-    let a = c .before .before .before .before .before .before .before .before .args in
-    let s = now (a .image) in
-    let o = a .at .0 in
-    simp (le-leb (o + 16) (length s) (omega arith), ne-eqb (leAt 4 s o) (a .kind .one) (λ e. c .before .before .if2 .left (cc)), ne-eqb (leAt 4 s o) (a .kind .two) (λ e. c .if3 .left (cc)))
+returns-4 c = by-neither _ _ _ _ _ (c .before .before .before .before .u32-at .ensures) (c .before .before .before .before .before .if1 .left) (c .before .before .if2 .left) (c .if3 .left)
 
 pub directory-by-cookie-spec : {M : Type 1} → statement M
 directory-by-cookie-spec =

@@ -1,3 +1,4 @@
+use Rattle.directory.proofs.Cases.{fields-read}
 use borrow.Author.Needs.{needs}
 use Rattle.directory.proofs.entry_of.Statement.{statement}
 use Rattle.directory.proofs.entry_of.Tie as tie
@@ -30,9 +31,7 @@ cast-t14 : tie.Need-cast-t14
 cast-t14 c = search needs
 
 returns : tie.Need-returns
-returns c =
-    let p = c .before .before .before .before .entry-place in
-    rw (← (p .ensures .0)) (cc)
+returns c = fields-read _ _ _ _ _ _ _ (c .before .before .before .before .entry-place .ensures .0) (c .before .before .before .u64-at .ensures) (c .before .before .byte-at .ensures) (c .before .byte-at2 .ensures) (c .u32-at .ensures)
 
 pub entry-of-spec : {M : Type 1} → statement M
 entry-of-spec =

@@ -1,10 +1,10 @@
 use borrow.Author.Tests.{eq-eqb, ne-eqb}
-use mathlib.Core.Path.{_≡_, ap, _∙_}
+use mathlib.Core.Path.{_≡_, sym, ap, _∙_}
 use Prim.Native.Nat.{ℕ, _+_, _*_, _-_}
 use native.Mathlib.Omega.{arith}
 use lib.ListN.{take, drop}
 use denote.Ref.{now}
-use Rattle.le.specs.Le.{leAt}
+use Rattle.reply.proofs.ReplyLaws.{passed, failed}
 use Rattle.fletcher.specs.Fletcher.{fletcherOf}
 use Rattle.directory.specs.Directory.{checksumAt}
 use borrow.Author.Needs.{needs}
@@ -55,10 +55,7 @@ sum c =
     c .fletcher .ensures ∙ ap (λ (j : ℕ). fletcherOf (take j (drop (a .at .0 + 8) (now (a .image))))) q
 
 returns : tie.Need-returns
-returns c =
-    let a = c .before .before .before .before .before .before .before .args in
-    let s = now (a .image) in
-    simp (ne-eqb (leAt 4 s (a .at .0 + 4)) (checksumAt (a .kind) s (a .at .0) (a .n)) (λ e. c .if1 .taken (cc (sum (c .before .before)))))
+returns c = sym (failed _ _ _ _ (ne-eqb _ _ (λ e. c .if1 .taken (c .before .u32-at .ensures ∙ e ∙ sym (sum (c .before .before))))))
 
 add-u32-at-2 : tie.Need-add-u32-at-2
 add-u32-at-2 c = search needs
@@ -67,19 +64,13 @@ u32-at-requires-2 : tie.Need-u32-at-requires-2
 u32-at-requires-2 c κs = search needs
 
 returns-2 : tie.Need-returns-2
-returns-2 c =
-    let a = c .before .before .before .before .before .before .before .before .before .args in
-    let s = now (a .image) in
-    simp (eq-eqb (leAt 4 s (a .at .0 + 4)) (checksumAt (a .kind) s (a .at .0) (a .n)) (cc (sum (c .before .before .before .before))), ne-eqb (leAt 4 s (a .at .0 + 12)) 0 (λ e. c .if2 .taken (cc)))
+returns-2 c = sym (passed _ _ _ _ (eq-eqb _ _ (sym (c .before .before .before .u32-at .ensures) ∙ c .before .before .if1 .left ∙ sum (c .before .before .before .before))) ∙ failed _ _ _ _ (ne-eqb _ _ (λ e. c .if2 .taken (c .before .u32-at2 .ensures ∙ e))))
 
 entries-requires : tie.Need-entries-requires
 entries-requires c κs = search needs
 
 returns-3 : tie.Need-returns-3
-returns-3 c =
-    let a = c .before .before .before .before .before .before .before .before .before .before .args in
-    let s = now (a .image) in
-    simp (eq-eqb (leAt 4 s (a .at .0 + 4)) (checksumAt (a .kind) s (a .at .0) (a .n)) (cc (sum (c .before .before .before .before .before))), eq-eqb (leAt 4 s (a .at .0 + 12)) 0 (cc)) (c .entries .ensures)
+returns-3 c = c .entries .ensures ∙ sym (passed _ _ _ _ (eq-eqb _ _ (sym (c .before .before .before .before .u32-at .ensures) ∙ c .before .before .before .if1 .left ∙ sum (c .before .before .before .before .before))) ∙ passed _ _ _ _ (eq-eqb _ _ (sym (c .before .before .u32-at2 .ensures) ∙ c .before .if2 .left)))
 
 pub sealed-spec : {M : Type 1} → statement M
 sealed-spec =
