@@ -32,6 +32,9 @@ Try it:
 Status: 0, or 2 where there is no such number.
 ";
 
+/// How wide the lines are where the output is no terminal.
+const USUAL_COLUMNS: usize = 100;
+
 fn read(words: &[OsString]) -> Result<Job, String> {
     let words = Words::part(COMMAND.name, &[], words)?;
     words.expect(&["[NUMBER]"])?;
@@ -47,7 +50,7 @@ fn read(words: &[OsString]) -> Result<Job, String> {
                     REFUSALS.len()
                 ))
             })?;
-            page(known, terminal::columns())
+            page(known, terminal::columns().unwrap_or(USUAL_COLUMNS))
         }
     };
     Ok(Box::new(move || help::print(&text)))

@@ -5,15 +5,18 @@
 
 mod ask;
 mod command_line;
+mod csv;
 mod ending;
 mod explain;
 mod help;
 mod images;
+mod json;
 mod layout;
 mod mailbox;
 mod names;
 mod numbers;
 mod opening;
+mod progress;
 mod refusals;
 mod standard_error;
 mod terminal;

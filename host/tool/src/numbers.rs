@@ -1,4 +1,4 @@
-//! Numbers as people write them: decimal digits, or 0x and hexadecimal digits.
+//! Numbers as people write them, decimal digits or 0x and hexadecimal digits; and bytes as digits.
 
 use crate::words::shown;
 
@@ -45,6 +45,17 @@ pub fn number32(role: &str, word: &[u8]) -> Result<u32, String> {
 
 fn is_digit(byte: u8, base: u32) -> bool {
     char::from(byte).is_digit(base)
+}
+
+/// Bytes as hexadecimal digits, two a byte.
+pub fn hexadecimal(bytes: &[u8]) -> String {
+    const DIGITS: &[u8; 16] = b"0123456789abcdef";
+    let mut text = String::with_capacity(2 * bytes.len());
+    for byte in bytes {
+        text.push(char::from(DIGITS[usize::from(byte >> 4)]));
+        text.push(char::from(DIGITS[usize::from(byte & 15)]));
+    }
+    text
 }
 
 #[cfg(test)]

@@ -1,6 +1,7 @@
 //! The refusal numbers of document 01 in words: what each means, what usually causes it, and what to look at.
 
-use bindings::Refusal;
+use crate::json::Json;
+use bindings::{Answer, Refusal};
 
 /// A refusal number in words.
 pub struct Explained {
@@ -94,7 +95,7 @@ pub static REFUSALS: [Explained; 17] = [
     },
     Explained {
         number: 8,
-        title: "no such entry",
+        title: "no such entry, pointer or post",
         means: "What was asked for is not there: an index at or above the total, a type and \
              subprogram that no entry has, a directory that nothing leads to, or a caller \
              without a post.",
@@ -187,6 +188,13 @@ pub fn explained(number: u64) -> Option<&'static Explained> {
 pub fn told(refusal: Refusal) -> String {
     let title = explained(refusal.number).map_or("no number of document 01", |known| known.title);
     format!("refused {}: {title}", refusal.number)
+}
+
+/// Why something was refused, as programs are told it: the number, or null where it was not refused.
+pub fn json<T>(answer: &Answer<T>) -> Json {
+    Json::or_null(answer.as_ref().err(), |refusal| {
+        Json::Number(refusal.number)
+    })
 }
 
 #[cfg(test)]

@@ -14,22 +14,19 @@ pub enum Stream {
     Error = 2,
 }
 
-/// How wide lines may be where nothing says it.
-pub const USUAL_COLUMNS: usize = 100;
-
 /// Whether a stream is a terminal.
 pub fn is_terminal(stream: Stream) -> bool {
     // SAFETY: the call takes a number, and touches no memory of ours.
     unsafe { isatty(stream as c_int) == 1 }
 }
 
-/// How many columns a line on standard output may have: what COLUMNS says, else the terminal's width, else the usual.
-pub fn columns() -> usize {
+/// How many columns a line on standard output may have: what COLUMNS says, else the terminal's width; none where the
+/// output is no terminal.
+pub fn columns() -> Option<usize> {
     let said = std::env::var("COLUMNS").ok();
     said.and_then(|text| text.trim().parse().ok())
         .filter(|&columns| columns > 0)
         .or_else(width)
-        .unwrap_or(USUAL_COLUMNS)
 }
 
 /// The width of the terminal that standard output is.

@@ -6,7 +6,8 @@ mod aspt;
 mod buffers;
 mod build;
 mod damage;
-mod directory;
+pub mod directory;
+
 mod draft;
 mod flash;
 mod guids;

@@ -1,6 +1,7 @@
 //! A line's words, and what a word stands for: a number, bytes, a name.
 
 use super::call::BadLine;
+use crate::numbers;
 pub use crate::numbers::{number, number16, number32, number8};
 pub use crate::words::shown;
 
@@ -40,16 +41,10 @@ pub fn hex(role: &str, word: &[u8]) -> Result<Vec<u8>, BadLine> {
 
 /// Bytes as an answer shows them: a HEX word.
 pub fn as_hex(bytes: &[u8]) -> String {
-    const DIGITS: &[u8; 16] = b"0123456789abcdef";
-    if bytes.is_empty() {
-        return String::from("-");
+    match bytes.is_empty() {
+        true => String::from("-"),
+        false => numbers::hexadecimal(bytes),
     }
-    let mut text = String::with_capacity(2 * bytes.len());
-    for byte in bytes {
-        text.push(char::from(DIGITS[usize::from(byte >> 4)]));
-        text.push(char::from(DIGITS[usize::from(byte & 15)]));
-    }
-    text
 }
 
 /// A NAME.
