@@ -55,13 +55,15 @@ has_rust_library() {
     compgen -G "$folder/libstd-*.rlib" >/dev/null
 }
 
-# Prints the Debian packages that hold what the machine lacks. Only the tests need the formatter and the OVMF images.
+# Prints the Debian packages that hold what the machine lacks. Only the tests need the formatter, the OVMF images, and Python,
+# which reads the JSON and CSV that the tool writes.
 missing_packages() { # tool | tests
     works "$rustc" || echo rustc
     works "$cargo" || echo cargo
     if [ "$1" = tests ]; then
         works "$rustfmt" || echo rustfmt
         compgen -G '/usr/share/OVMF/*.fd' >/dev/null || echo ovmf
+        python3 -c 'import csv, json, pty' 2>/dev/null || echo python3
     fi
     if [ "$machine" = x86_64 ]; then
         can_link_c || printf '%s\n' gcc libc6-dev

@@ -52,6 +52,13 @@ expect 'standard input is passed through' gave 0 "$answers"
 start ask <<<'nonsense'
 expect 'a bad line ends with 1' test "$(cat ended)" = 1
 
+start register
+expect 'the register of the sample is shown, and all of it is accepted' grep -qxF "the tool's sample board: accepted" wrote
+expect 'its boot loader is found, so the status is 0' test "$(cat ended)" = 0
+
+start register missing.rom
+expect 'an image that is not there ends with 3' test "$(cat ended)" = 3
+
 start nonsense
 expect 'a wrong word ends with 2 and writes nothing' gave 2 ''
 expect 'the message says what to do' says 'kpalumere --help'

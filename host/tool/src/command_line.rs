@@ -2,7 +2,7 @@
 
 use crate::ending::Ending;
 use crate::words::shown;
-use crate::{ask, explain, help, mailbox};
+use crate::{ask, explain, help, mailbox, register};
 use std::ffi::OsString;
 use std::os::unix::ffi::OsStrExt;
 
@@ -23,7 +23,12 @@ pub struct Command {
 pub type Job = Box<dyn FnOnce() -> Ending>;
 
 /// The commands, in the order in which the help shows them.
-pub static COMMANDS: &[&Command] = &[&explain::COMMAND, &mailbox::COMMAND, &ask::COMMAND];
+pub static COMMANDS: &[&Command] = &[
+    &register::COMMAND,
+    &explain::COMMAND,
+    &mailbox::COMMAND,
+    &ask::COMMAND,
+];
 
 /// Reads the words after the program's name. The error is the message to show.
 pub fn read(words: impl Iterator<Item = OsString>) -> Result<Job, String> {
@@ -42,9 +47,12 @@ pub fn read(words: impl Iterator<Item = OsString>) -> Result<Job, String> {
             "kpalumere: `{known}` is followed by a word that it does not take. \
              `kpalumere --help` has the commands."
         )),
-        [_, "--help" | "-h"] => Ok(printed((named(&words[0])?.help)())),
-        [_, ..] => {
+        [_, more @ ..] => {
             let command = named(&words[0])?;
+            let mut options = more.iter().take_while(|word| **word != "--");
+            if options.any(|word| matches!(*word, "--help" | "-h")) {
+                return Ok(printed((command.help)()));
+            }
             (command.read)(&words[1..]).map_err(|wrong| format!("kpalumere: {wrong}"))
         }
     }
@@ -94,8 +102,13 @@ mod tests {
         }
         for command in COMMANDS {
             let name = command.name;
-            for words in [[name, "--help"], [name, "-h"], ["help", name]] {
-                assert!(read_words(&words).is_ok(), "{words:?}");
+            for words in [
+                &[name, "--help"][..],
+                &[name, "-h"],
+                &[name, "a", "b", "--help", "--nonsense"],
+                &["help", name],
+            ] {
+                assert!(read_words(words).is_ok(), "{words:?}");
             }
         }
     }
@@ -133,6 +146,7 @@ mod tests {
             &["ask", "--json"],
             &["ask", "-"],
             &["ask", "a", "b"],
+            &["ask", "--", "--help"],
             &["mailbox", "--json"],
             &["mailbox", "a", "b"],
             &["mailbox", "-", "-"],

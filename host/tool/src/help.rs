@@ -25,6 +25,7 @@ const AFTER: &str = "
 `kpalumere COMMAND --help` and `kpalumere help COMMAND` say all about one command.
 
 Try it:
+  kpalumere register
   kpalumere explain 4
   printf 'buffer image 16\\npatch image 4 c0ffee\\nshow image 0 8\\n' | kpalumere ask
 

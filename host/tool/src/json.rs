@@ -40,81 +40,80 @@ impl Json {
     /// The value's text; the lines after the first are indented by so many columns.
     pub fn indented(&self, indent: usize) -> String {
         let mut text = String::new();
-        // A text takes whatever is written to it.
-        drop(self.write(&mut text, indent));
+        self.put(&mut text, indent);
         text
     }
 
-    /// Writes the value; the lines after the first are indented by so many columns.
-    fn write(&self, out: &mut dyn fmt::Write, indent: usize) -> fmt::Result {
+    fn put(&self, out: &mut String, indent: usize) {
         match self {
-            Json::Null => out.write_str("null"),
-            Json::Number(number) => write!(out, "{number}"),
-            Json::Text(text) => write_text(out, text),
-            Json::List(items) => {
-                let write_item =
-                    |out: &mut dyn fmt::Write, item: &Json, indent| item.write(out, indent);
-                self.write_within(out, indent, ('[', ']'), items, write_item)
+            Json::Null => out.push_str("null"),
+            Json::Number(number) => out.push_str(&number.to_string()),
+            Json::Text(text) => put_text(out, text),
+            Json::List(items) => self.put_within(out, indent, ['[', ']'], items, Json::put_item),
+            Json::Object(fields) => {
+                self.put_within(out, indent, ['{', '}'], fields, Json::put_field)
             }
-            Json::Object(fields) => self.write_within(
-                out,
-                indent,
-                ('{', '}'),
-                fields,
-                |out, (name, value), indent| {
-                    write_text(out, name)?;
-                    out.write_str(": ")?;
-                    value.write(out, indent)
-                },
-            ),
         }
     }
 
-    /// Writes items between brackets: on one line, or on a line each where the value is deep.
-    fn write_within<T>(
+    fn put_item(item: &Json, out: &mut String, indent: usize) {
+        item.put(out, indent);
+    }
+
+    fn put_field((name, value): &(&'static str, Json), out: &mut String, indent: usize) {
+        put_text(out, name);
+        out.push_str(": ");
+        value.put(out, indent);
+    }
+
+    /// Puts items between brackets: on one line, or on a line each where the value is deep.
+    fn put_within<T>(
         &self,
-        out: &mut dyn fmt::Write,
+        out: &mut String,
         indent: usize,
-        brackets: (char, char),
+        [before, after]: [char; 2],
         items: &[T],
-        write_item: impl Fn(&mut dyn fmt::Write, &T, usize) -> fmt::Result,
-    ) -> fmt::Result {
+        put_item: fn(&T, &mut String, usize),
+    ) {
         let deep = self.is_deep();
-        out.write_char(brackets.0)?;
+        let new_line = |indent: usize| format!("\n{:indent$}", "");
+        out.push(before);
         for (at, item) in items.iter().enumerate() {
             match (deep, at) {
-                (true, 0) => write!(out, "\n{:1$}", "", indent + 1)?,
-                (true, _) => write!(out, ",\n{:1$}", "", indent + 1)?,
+                (true, 0) => out.push_str(&new_line(indent + 1)),
+                (true, _) => out.push_str(&format!(",{}", new_line(indent + 1))),
                 (false, 0) => (),
-                (false, _) => out.write_str(", ")?,
+                (false, _) => out.push_str(", "),
             }
-            write_item(out, item, indent + 1)?;
+            put_item(item, out, indent + 1);
         }
         if deep {
-            write!(out, "\n{:indent$}", "")?;
+            out.push_str(&new_line(indent));
         }
-        out.write_char(brackets.1)
+        out.push(after);
     }
 }
 
 impl fmt::Display for Json {
     fn fmt(&self, out: &mut fmt::Formatter<'_>) -> fmt::Result {
-        self.write(out, 0)
+        out.write_str(&self.indented(0))
     }
 }
 
 /// A text in quotes. Control characters, quotes and backslashes are escaped.
-fn write_text(out: &mut dyn fmt::Write, text: &str) -> fmt::Result {
-    out.write_char('"')?;
+fn put_text(out: &mut String, text: &str) {
+    out.push('"');
     for character in text.chars() {
         match character {
-            '"' | '\\' => write!(out, "\\{character}")?,
-            '\n' => out.write_str("\\n")?,
-            '\u{7f}' | '\0'..='\u{1f}' => write!(out, "\\u{:04x}", u32::from(character))?,
-            _ => out.write_char(character)?,
+            '"' | '\\' => out.extend(['\\', character]),
+            '\n' => out.push_str("\\n"),
+            '\u{7f}' | '\0'..='\u{1f}' => {
+                out.push_str(&format!("\\u{:04x}", u32::from(character)));
+            }
+            _ => out.push(character),
         }
     }
-    out.write_char('"')
+    out.push('"');
 }
 
 #[cfg(test)]

@@ -67,7 +67,7 @@ impl Page {
     }
 
     /// Whether a line fits as it is.
-    fn has_room_for(&self, indent: usize, line: &str) -> bool {
+    pub fn has_room_for(&self, indent: usize, line: &str) -> bool {
         let width = indent + line.chars().count();
         self.columns.map_or(true, |columns| width <= columns)
     }

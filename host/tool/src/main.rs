@@ -1,8 +1,5 @@
 //! The tool that people run: starts the command that the command line names.
 
-// The commands that use all of the shared modules are on their way.
-#![allow(dead_code)]
-
 mod ask;
 mod command_line;
 mod csv;
@@ -18,6 +15,7 @@ mod numbers;
 mod opening;
 mod progress;
 mod refusals;
+mod register;
 mod standard_error;
 mod terminal;
 mod words;

@@ -61,6 +61,7 @@ pub fn entry_type_words(code: u64) -> &'static str {
 }
 
 /// A TYPE as people write it: a number of 8 bits, or a name of [`ENTRY_TYPES`]. The error says what to write.
+#[allow(dead_code)] // For commands that are given a type.
 pub fn read_entry_type(word: &OsStr) -> Result<u8, String> {
     if let Some(known) = ENTRY_TYPES.iter().find(|known| word == known.name) {
         return Ok(known.code);

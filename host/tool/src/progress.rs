@@ -1,6 +1,6 @@
 //! Progress through many files, on a line of standard error that is written over and in the end wiped.
 
-use crate::terminal::{is_terminal, Stream};
+use crate::terminal::{is_terminal, width, Stream};
 
 pub struct Progress {
     total: usize,
@@ -24,7 +24,11 @@ impl Progress {
     pub fn begin(&mut self, name: &str) {
         self.begun += 1;
         if self.shown {
-            eprint!("\r\x1b[K{} of {}: {name}", self.begun, self.total);
+            let line = format!("{} of {}: {name}", self.begun, self.total);
+            // A line that the terminal broke could not be wiped.
+            let most = width(Stream::Error).unwrap_or(80).saturating_sub(1);
+            let line: String = line.chars().take(most).collect();
+            eprint!("\r\x1b[K{line}");
         }
     }
 

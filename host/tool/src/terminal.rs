@@ -26,16 +26,16 @@ pub fn columns() -> Option<usize> {
     let said = std::env::var("COLUMNS").ok();
     said.and_then(|text| text.trim().parse().ok())
         .filter(|&columns| columns > 0)
-        .or_else(width)
+        .or_else(|| width(Stream::Output))
 }
 
-/// The width of the terminal that standard output is.
-fn width() -> Option<usize> {
+/// The width of the terminal that a stream is.
+pub fn width(stream: Stream) -> Option<usize> {
     /// The request for a terminal's size, and the four numbers that answer it: rows, columns, and two in pixels.
     const SIZE_OF_TERMINAL: c_ulong = 0x5413;
     let mut size = [0u16; 4];
     // SAFETY: the call writes four numbers of 16 bits, for which there is room.
-    let told = unsafe { ioctl(Stream::Output as c_int, SIZE_OF_TERMINAL, size.as_mut_ptr()) };
+    let told = unsafe { ioctl(stream as c_int, SIZE_OF_TERMINAL, size.as_mut_ptr()) };
     match (told, size[1]) {
         (0, columns @ 1..) => Some(usize::from(columns)),
         _ => None,

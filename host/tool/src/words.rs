@@ -51,7 +51,7 @@ impl Words {
                 .find(|option| option.name.as_bytes() == name)
                 .ok_or_else(|| {
                     parted.wrong(&format!(
-                        "has no option {}; a file of that name is given after `--`",
+                        "has no option {}; a word that begins with a hyphen is given after `--`",
                         shown(name)
                     ))
                 })?;
@@ -80,6 +80,7 @@ impl Words {
     }
 
     /// What follows an option, where it is given.
+    #[allow(dead_code)] // For commands with an option that takes a value.
     pub fn value(&self, option: &str) -> Option<&OsStr> {
         let given = self.options.iter().find(|(name, _)| *name == option);
         given.and_then(|(_, value)| value.as_deref())

@@ -7,7 +7,6 @@ mod buffers;
 mod build;
 mod damage;
 pub mod directory;
-
 mod draft;
 mod flash;
 mod guids;

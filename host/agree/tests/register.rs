@@ -1,0 +1,720 @@
+//! `kpalumere register` as people and programs use it: what it shows of a sample and of refused images, on wide terminals and
+//! narrow ones; its JSON and CSV, read by Python and held against the second program; many images; its statuses.
+
+use agree::cases;
+use agree::programs::{built, built_folder, run, Program, Run};
+use agree::subjects::directory::{Directory, Entry};
+use std::ffi::{OsStr, OsString};
+use std::fs;
+use std::os::unix::ffi::{OsStrExt, OsStringExt};
+use std::path::{Path, PathBuf};
+use std::process::Command;
+
+// ---- images
+
+/// Where the parts of a test's board lie, and how long it is.
+const EFS: usize = 0x2_0000;
+const LEVEL_ONE: usize = 0x2_1000;
+const LEVEL_TWO: usize = 0x2_3800;
+const LENGTH: usize = 0x2_8000;
+
+/// An entry that keeps to the rules.
+fn entry(class: u8, subprogram: u8, size: u32, location: u64, mode: u64) -> Entry {
+    Entry {
+        class,
+        subprogram,
+        reserved: 0,
+        size,
+        word: location | mode << 62,
+    }
+}
+
+/// A board with an EFS that leads to level one, and the directories given.
+fn board(one: &Directory, two: &Directory) -> Vec<u8> {
+    let mut image = vec![0; LENGTH];
+    put(&mut image, EFS, &[0xAA, 0x55, 0xAA, 0x55]);
+    put(&mut image, EFS + 0x14, &(LEVEL_ONE as u32).to_le_bytes());
+    put(&mut image, LEVEL_ONE, &one.bytes());
+    put(&mut image, LEVEL_TWO, &two.bytes());
+    image
+}
+
+fn put(image: &mut [u8], place: usize, bytes: &[u8]) {
+    image[place..place + bytes.len()].copy_from_slice(bytes);
+}
+
+/// A level one that leads to level two, and more entries behind.
+fn level_one(more: &[Entry]) -> Directory {
+    let lead = entry(0x40, 0, 0, LEVEL_TWO as u64, 1);
+    let first = [entry(0x00, 0, 0x40, 0x2_4000, 1), lead];
+    Directory::of(1, [&first[..], more].concat())
+}
+
+/// A level two with a boot loader, and more entries behind.
+fn level_two(more: &[Entry]) -> Directory {
+    let first = [entry(0x01, 0, 0x100, 0x2_5000, 1)];
+    Directory::of(2, [&first[..], more].concat())
+}
+
+fn good() -> Vec<u8> {
+    board(&level_one(&[]), &level_two(&[]))
+}
+
+/// The good board with some bytes changed.
+fn changed(place: usize, bytes: &[u8]) -> Vec<u8> {
+    let mut image = good();
+    put(&mut image, place, bytes);
+    image
+}
+
+/// Images that are refused, each with the number that it is refused by.
+fn refused() -> Vec<(&'static str, u64, Vec<u8>)> {
+    let mut reserved = level_one(&[]);
+    reserved.reserved = 1;
+    let misplaced = level_two(&[entry(0x40, 0, 0, 0, 1)]);
+    let partition = Directory::of(1, vec![entry(0x40, 0, 0, LEVEL_TWO as u64, 3)]);
+    let astray = level_one(&[entry(0x40, 0, 0, LENGTH as u64 + 1, 1)]);
+    vec![
+        (
+            "one-runs-out.rom",
+            1,
+            changed(EFS + 0x14, &(LENGTH as u32 - 8).to_le_bytes()),
+        ),
+        ("no-efs.rom", 2, changed(EFS, &[0])),
+        ("one-cookie.rom", 2, changed(LEVEL_ONE, b"$PL2")),
+        (
+            "one-total.rom",
+            3,
+            changed(LEVEL_ONE + 8, &513u32.to_le_bytes()),
+        ),
+        ("one-checksum.rom", 4, changed(LEVEL_ONE + 16, &[0x77])),
+        ("two-checksum.rom", 4, changed(LEVEL_TWO + 16, &[0x77])),
+        ("one-reserved.rom", 5, board(&reserved, &level_two(&[]))),
+        (
+            "pointer-astray.rom",
+            7,
+            changed(EFS + 0x14, &0x0200_0000u32.to_le_bytes()),
+        ),
+        ("second-two-astray.rom", 7, board(&astray, &level_two(&[]))),
+        ("no-pointer.rom", 8, changed(EFS + 0x14, &[0; 4])),
+        ("two-in-two.rom", 14, board(&level_one(&[]), &misplaced)),
+        ("empty.rom", 15, Vec::new()),
+        (
+            "two-in-a-partition.rom",
+            16,
+            board(&partition, &level_two(&[])),
+        ),
+    ]
+}
+
+/// Images that are accepted: without level two, with every field of an entry in use, with full directories, and with the
+/// longest image that there may be.
+fn accepted() -> Vec<(&'static str, Vec<u8>)> {
+    let alone = Directory::of(1, vec![entry(0x01, 0, 0x10, 0x2_5000, 1)]);
+    let empty = Directory::of(1, Vec::new());
+    let none = Directory::of(2, Vec::new());
+    let wide = level_two(&[
+        entry(0xFE, 0xFD, u32::MAX, (1 << 62) - 1, 0),
+        entry(0x0B, 1, 0, (1 << 62) - 1, 3),
+        entry(0x12, 0, 0x40, 0xFF02_4000, 0),
+        entry(0x08, 0, 0x40, 0x100, 2),
+        entry(0x02, 0, LENGTH as u32, 0, 1),
+        entry(0x02, 0, 1, LENGTH as u64, 1),
+        entry(0x02, 0, 0, LENGTH as u64, 1),
+    ]);
+    let mut wide = board(&level_one(&[]), &wide);
+    put(&mut wide, 0x2_5010, b"$PS1");
+    put(&mut wide, 0x2_5060, &0xABCD_0F01u32.to_le_bytes());
+    let filling: Vec<Entry> = (0..511)
+        .map(|k| entry(0x30, k as u8, 0x20, 0x2_6000, 1))
+        .collect();
+    let mut long = vec![0; 1 << 24];
+    let full = board(&level_one(&filling[1..]), &level_two(&filling));
+    put(&mut long, 0, &full);
+    vec![
+        ("good.rom", good()),
+        ("one-level.rom", board(&alone, &none)),
+        ("nothing.rom", board(&empty, &none)),
+        ("wide.rom", wide),
+        ("long.rom", long),
+    ]
+}
+
+// ---- running
+
+/// A folder for the files of one test.
+fn room(name: &str) -> PathBuf {
+    let room = built_folder().join("register-tests").join(name);
+    drop(fs::remove_dir_all(&room));
+    fs::create_dir_all(&room).expect("the folder of the tests can be written");
+    room
+}
+
+fn write(room: &Path, name: impl AsRef<Path>, bytes: &[u8]) {
+    fs::write(room.join(name), bytes).expect("a file of a test can be written");
+}
+
+/// The tool with some words, in a folder; on no terminal, and without a word on how wide one is.
+fn command(room: &Path, words: &[impl AsRef<OsStr>]) -> Command {
+    let program = built("kpalumere");
+    let mut command = Command::new(&program[0]);
+    command
+        .args(&program[1..])
+        .args(words)
+        .current_dir(room)
+        .env_remove("COLUMNS")
+        .env_remove("NO_COLOR");
+    command
+}
+
+fn tool(room: &Path, words: &[impl AsRef<OsStr>]) -> Run {
+    run(command(room, words), b"")
+}
+
+fn tool_in_columns(room: &Path, columns: usize, words: &[&str]) -> Run {
+    let mut command = command(room, words);
+    command.env("COLUMNS", columns.to_string());
+    run(command, b"")
+}
+
+fn text(bytes: &[u8]) -> String {
+    String::from_utf8(bytes.to_vec()).expect("the tool writes text")
+}
+
+/// A recorded output.
+fn recorded(name: &str) -> String {
+    let path = cases::folder().join("register").join(name);
+    match fs::read_to_string(&path) {
+        Ok(text) => text,
+        Err(error) => panic!("{} cannot be read: {error}", path.display()),
+    }
+}
+
+/// Python with the script beside this test. Without Python nobody has read the JSON, so that is a failure.
+fn python(words: &[impl AsRef<OsStr>]) -> Run {
+    let has = Command::new("python3")
+        .args(["-c", "import csv, json, pty"])
+        .output();
+    assert!(
+        has.map_or(false, |output| output.status.success()),
+        "there is no python3 with its usual modules, and it is to read the JSON and the CSV: install Debian's package \
+         python3, as ./test does (apt-get install -y --no-install-recommends python3)"
+    );
+    let script = Path::new(env!("CARGO_MANIFEST_DIR")).join("tests/register.py");
+    let mut command = Command::new("python3");
+    command
+        .arg(script)
+        .args(words)
+        .env_remove("COLUMNS")
+        .env_remove("NO_COLOR")
+        .env("TERM", "xterm");
+    let run = run(command, b"");
+    assert_eq!(run.status, Some(0), "{}", text(&run.said));
+    run
+}
+
+/// What a command writes on a terminal of so many columns.
+fn on_terminal(columns: usize, variable: Option<&str>, words: &[&str]) -> String {
+    let mut all = vec![OsString::from("terminal"), columns.to_string().into()];
+    if let Some(variable) = variable {
+        all.extend(["env", variable].map(OsString::from));
+    }
+    all.extend(built("kpalumere"));
+    all.extend(words.iter().map(OsString::from));
+    text(&python(&all).answers)
+}
+
+// ---- for people
+
+#[test]
+fn the_sample_is_shown_as_recorded() {
+    let room = room("sample");
+    let sample = tool(&room, &["register"]);
+    assert_eq!(
+        (sample.status, text(&sample.said)),
+        (Some(0), String::new())
+    );
+    assert_eq!(text(&sample.answers), recorded("sample.report"));
+    for columns in [40, 60] {
+        let narrow = tool_in_columns(&room, columns, &["register"]);
+        assert_eq!(narrow.status, Some(0));
+        let name = format!("sample-{columns}.report");
+        assert_eq!(text(&narrow.answers), recorded(&name), "{name}");
+    }
+    for form in ["json", "csv"] {
+        let run = tool(&room, &["register".to_string(), format!("--{form}")]);
+        assert_eq!(run.status, Some(0));
+        assert_eq!(text(&run.answers), recorded(&format!("sample.{form}")));
+    }
+}
+
+#[test]
+fn refused_images_are_shown_with_what_could_be_read() {
+    let room = room("refused");
+    let images = refused();
+    let mut words = vec!["register"];
+    for (name, number, bytes) in &images {
+        write(&room, name, bytes);
+        words.push(name);
+        let alone = tool(&room, &["register", name]);
+        assert_eq!(alone.status, Some(1), "{name}");
+        let begins = format!("{name:?}: refused {number}: ");
+        assert!(text(&alone.answers).starts_with(&begins), "{name}");
+    }
+    let all = tool(&room, &words);
+    assert_eq!((all.status, text(&all.said)), (Some(1), String::new()));
+    assert_eq!(text(&all.answers), recorded("refused.report"));
+}
+
+#[test]
+fn no_line_is_wider_than_the_terminal_and_no_number_is_broken() {
+    let room = room("narrow");
+    let mut words = vec!["register"];
+    for (name, _, bytes) in &refused() {
+        write(&room, name, bytes);
+        words.push(name);
+    }
+    let images = accepted();
+    for (name, bytes) in images.iter().filter(|(name, _)| *name != "long.rom") {
+        write(&room, name, bytes);
+        words.push(name);
+    }
+    let numbers = |text: &str| {
+        let is_number = |word: &&str| word.starts_with(|first: char| first.is_ascii_digit());
+        let apart = |character: char| character.is_whitespace() || ",;:()".contains(character);
+        let mut numbers: Vec<String> = text
+            .split(apart)
+            .filter(is_number)
+            .map(String::from)
+            .collect();
+        numbers.sort();
+        numbers
+    };
+    let wide = text(&tool(&room, &words).answers);
+    for columns in [32, 40, 50, 60, 79, 80, 100, 120, 140] {
+        let shown = text(&tool_in_columns(&room, columns, &words).answers);
+        for line in shown.lines() {
+            let is_name = line.starts_with('"') && line.ends_with("\":");
+            let fits = line.chars().count() <= columns;
+            assert!(fits || is_name, "{columns}: {line}");
+        }
+        assert_eq!(numbers(&shown), numbers(&wide), "{columns}");
+    }
+}
+
+#[test]
+fn a_terminal_has_colour_and_its_own_width_and_a_pipe_has_neither() {
+    let shown = on_terminal(60, None, &["register"]);
+    assert!(shown.contains("\x1b[32m"), "{shown}");
+    assert!(shown.ends_with("status 0\n"), "{shown}");
+    let plain = on_terminal(60, Some("NO_COLOR=1"), &["register"]);
+    assert_eq!(plain, recorded("sample-60.report") + "status 0\n");
+    assert_eq!(uncoloured(&shown), plain);
+    let narrower = on_terminal(60, Some("COLUMNS=40"), &["register"]);
+    assert_eq!(
+        uncoloured(&narrower),
+        recorded("sample-40.report") + "status 0\n"
+    );
+}
+
+/// A text without the colours.
+fn uncoloured(text: &str) -> String {
+    let mut parts = text.split("\x1b[");
+    let first = parts.next().unwrap_or_default().to_string();
+    parts.fold(first, |before, part| {
+        let (_, words) = part.split_once('m').expect("a colour ends with m");
+        before + words
+    })
+}
+
+#[test]
+fn progress_is_told_on_a_terminal_and_wiped() {
+    let room = room("progress");
+    write(&room, "a.rom", &good());
+    let image = room.join("a.rom").display().to_string();
+    let shown = on_terminal(200, None, &["register", "--quiet", &image, &image]);
+    assert!(
+        shown.contains(&format!("\r\x1b[K2 of 2: {image:?}\r\x1b[K")),
+        "{shown:?}"
+    );
+    assert!(shown.contains("2 images: 2 accepted"), "{shown:?}");
+    let one = on_terminal(200, None, &["register", "--quiet", &image]);
+    assert!(!one.contains("1 of 1"), "{one:?}");
+}
+
+// ---- many images, and statuses
+
+#[test]
+fn many_images_have_a_summary_and_the_status_of_the_worst() {
+    let room = room("many");
+    for (name, bytes) in accepted() {
+        write(&room, name, &bytes);
+    }
+    for (name, _, bytes) in refused() {
+        write(&room, name, &bytes);
+    }
+    for (words, status, refused, summary) in [
+        (
+            &["good.rom", "one-level.rom"][..],
+            0,
+            0,
+            "2 images: 2 accepted, 0 refused, 0 not read; accepted without a boot loader: 0",
+        ),
+        (
+            &["good.rom", "nothing.rom", "wide.rom"],
+            1,
+            0,
+            "3 images: 3 accepted, 0 refused, 0 not read; accepted without a boot loader: 1",
+        ),
+        (
+            &["good.rom", "empty.rom", "one-total.rom", "one-checksum.rom", "two-checksum.rom"],
+            1,
+            4,
+            "5 images: 1 accepted, 4 refused (1 by 3, 2 by 4, 1 by 15), 0 not read; \
+             accepted without a boot loader: 0",
+        ),
+        (
+            &["missing.rom", "empty.rom", "good.rom"],
+            3,
+            1,
+            "3 images: 1 accepted, 1 refused (1 by 15), 1 not read; accepted without a boot loader: 0",
+        ),
+    ] {
+        let all = tool(&room, &[&["register"], words].concat());
+        assert_eq!(all.status, Some(status), "{words:?}");
+        let shown = text(&all.answers);
+        assert_eq!(shown.lines().last(), Some(summary));
+        for name in words {
+            let head = format!("{name:?}: ");
+            assert_eq!(shown.lines().filter(|line| line.starts_with(&head)).count(), 1);
+        }
+        let quiet = tool(&room, &[&["register", "--quiet"], words].concat());
+        assert_eq!(quiet.status, Some(status), "{words:?}");
+        let shown = text(&quiet.answers);
+        assert_eq!(shown.lines().last(), Some(summary));
+        assert!(!shown.contains(": accepted\n"), "{shown}");
+        let shown_refused = shown.lines().filter(|line| line.contains(".rom\": refused "));
+        assert_eq!(shown_refused.count(), refused, "{shown}");
+    }
+}
+
+#[test]
+fn one_image_ends_with_its_own_status() {
+    let room = room("one");
+    for (name, bytes) in accepted() {
+        write(&room, name, &bytes);
+        let status = if name == "nothing.rom" { 1 } else { 0 };
+        let run = tool(&room, &["register", name]);
+        assert_eq!(
+            (run.status, text(&run.said)),
+            (Some(status), String::new()),
+            "{name}"
+        );
+        assert!(
+            text(&run.answers).starts_with(&format!("{name:?}: accepted\n")),
+            "{name}"
+        );
+    }
+    let run = tool(&room, &["register", "missing.rom"]);
+    assert_eq!(run.status, Some(3));
+    assert!(text(&run.said).starts_with("kpalumere: \"missing.rom\" cannot be read: "));
+    assert!(
+        text(&run.said).contains("Name a file"),
+        "{}",
+        text(&run.said)
+    );
+}
+
+#[test]
+fn an_image_may_come_on_standard_input_and_a_name_may_begin_with_a_hyphen() {
+    let room = room("input");
+    let piped = run(command(&room, &["register", "-"]), &good());
+    assert_eq!(piped.status, Some(0));
+    write(&room, "--json", &good());
+    let named = tool(&room, &["register", "--", "--json"]);
+    assert_eq!(named.status, Some(0));
+    let piped = text(&piped.answers);
+    let below = piped.strip_prefix("standard input: ").unwrap();
+    assert_eq!(text(&named.answers), format!("\"--json\": {below}"));
+}
+
+#[test]
+fn wrong_words_end_with_2_and_say_what_to_do() {
+    let room = room("words");
+    for words in [
+        &["register", "--jsn"][..],
+        &["register", "--json", "--csv"],
+        &["register", "--json", "--json"],
+        &["register", "--quiet=yes"],
+        &["explain", "0"],
+        &["explain", "18"],
+        &["explain", "four"],
+        &["explain", "4", "5"],
+        &["explain", "--all"],
+    ] {
+        let run = tool(&room, words);
+        assert_eq!(
+            (run.status, text(&run.answers)),
+            (Some(2), String::new()),
+            "{words:?}"
+        );
+        let said = text(&run.said);
+        assert!(
+            said.starts_with(&format!("kpalumere: {} ", words[0])),
+            "{said}"
+        );
+        assert!(
+            said.contains(&format!("`kpalumere {} --help`", words[0])),
+            "{said}"
+        );
+    }
+}
+
+#[test]
+fn output_that_cannot_be_written_ends_with_3() {
+    let room = room("full");
+    for form in [
+        &["register"][..],
+        &["register", "--json"],
+        &["register", "--csv"],
+        &["explain"],
+    ] {
+        let full = fs::OpenOptions::new()
+            .write(true)
+            .open("/dev/full")
+            .unwrap();
+        let output = command(&room, form).stdout(full).output().unwrap();
+        assert_eq!(output.status.code(), Some(3), "{form:?}");
+        assert!(
+            text(&output.stderr).contains("cannot be written"),
+            "{form:?}"
+        );
+    }
+}
+
+// ---- for programs
+
+/// What the second program answers to a call that the ask language has no line for, in the form of its answers.
+fn added(call: &str, image: &[u8]) -> String {
+    let told = |answer: Result<String, second::refusal::Refusal>| match answer {
+        Ok(given) => format!("ok {given}"),
+        Err(refusal) => format!("refused {}", refusal.number),
+    };
+    let words: Vec<&str> = call.split(' ').collect();
+    match words.as_slice() {
+        ["efs"] => told(second::flash::efs(image).map(|efs| {
+            let (place, early, late) = (efs.place, efs.early, efs.late);
+            format!("place={place:#x} early={early:#x} late={late:#x}")
+        })),
+        ["pointer"] => told(second::flash::pointer(image).map(|pointer| {
+            let (field, value, place) = (pointer.field, pointer.value, pointer.place);
+            format!("field={field:#x} value={value:#x} place={place:#x}")
+        })),
+        ["version", place, length] => {
+            let [place, length] = [place, length].map(|word| word.parse::<usize>().unwrap());
+            match second::version::version(&image[place..place + length]) {
+                Ok(version) => {
+                    let digits = format!("{version:08x}");
+                    [0, 2, 4, 6].map(|at| &digits[at..at + 2]).join(".")
+                }
+                Err(_) => String::from("none"),
+            }
+        }
+        _ => panic!("{call} is no call"),
+    }
+}
+
+/// Whether a call is one of the ask language: those have the image's name in them.
+fn is_asked(call: &str) -> bool {
+    call.contains(" a ")
+}
+
+#[test]
+fn json_and_csv_say_what_the_second_program_answers() {
+    let room = room("forms");
+    let mut images = accepted();
+    images.extend(refused().into_iter().map(|(name, _, bytes)| (name, bytes)));
+    for (name, bytes) in &images {
+        write(&room, name, bytes);
+    }
+    for form in ["json", "csv"] {
+        let option = format!("--{form}");
+        let mut words = vec!["register", &option];
+        words.extend(images.iter().map(|(name, _)| *name));
+        let register = tool(&room, &words);
+        assert_eq!(
+            (register.status, text(&register.said)),
+            (Some(1), String::new())
+        );
+        let file = room.join(form);
+        fs::write(&file, &register.answers).unwrap();
+        let lines = text(&python(&[OsStr::new(form), file.as_os_str()]).answers);
+        let lines: Vec<Vec<&str>> = lines
+            .lines()
+            .map(|line| line.split('\t').collect())
+            .collect();
+        let mut versions = 0;
+        for (number, (name, bytes)) in images.iter().enumerate() {
+            let number = number.to_string();
+            let lines = || lines.iter().filter(|line| line[0] == number);
+            let asked = || lines().filter(|line| is_asked(line[1]));
+            let mut script = format!("file a {name}\n");
+            asked().for_each(|line| script.push_str(&format!("{}\n", line[1])));
+            let second = Program::second().answers_to(script.as_bytes(), &room);
+            let second = text(&second.answers);
+            assert_eq!(second.lines().count(), 1 + asked().count(), "{name}");
+            for (line, second) in asked().zip(second.lines().skip(1)) {
+                assert_eq!(line[2], second, "{form}, {name}: {}", line[1]);
+            }
+            for line in lines().filter(|line| !is_asked(line[1])) {
+                assert_eq!(
+                    line[2],
+                    added(line[1], bytes),
+                    "{form}, {name}: {}",
+                    line[1]
+                );
+                versions += usize::from(line[2].starts_with("ab.cd."));
+            }
+            // Both directories, five questions, the EFS and the pointer at least; of the longest image every entry.
+            let due = if *name == "long.rom" { 2 * 2 * 512 } else { 9 };
+            assert!(
+                lines().count() >= due,
+                "{form}, {name}: {}",
+                lines().count()
+            );
+        }
+        assert_eq!(versions, 1, "one entry of all images has a firmware header");
+    }
+}
+
+#[test]
+fn any_file_name_survives() {
+    let room = room("names");
+    let names: Vec<OsString> = [
+        &b"plain.rom"[..],
+        b"comma, and \"quotes\".rom",
+        b"two\nlines\r\n.rom",
+        b"caf\xc3\xa9 \xf0\x9f\x90\x9d.rom",
+        b"no text \xe9\xff\xed\xa0\x80.rom",
+        b" spaces \t\x0b\x1b[31m\x7f ",
+        b"back\\slash'",
+    ]
+    .iter()
+    .map(|name| OsString::from_vec(name.to_vec()))
+    .collect();
+    for name in &names {
+        write(&room, name, &good());
+    }
+    let expected: Vec<String> = names
+        .iter()
+        .map(|name| {
+            name.as_bytes()
+                .iter()
+                .map(|byte| format!("{byte:02x}"))
+                .collect()
+        })
+        .collect();
+    for form in ["json", "csv"] {
+        let mut words = vec![OsString::from("register"), format!("--{form}").into()];
+        words.extend(names.iter().cloned());
+        let run = tool(&room, &words);
+        assert_eq!(run.status, Some(0), "{}", text(&run.said));
+        let file = room.join(form);
+        fs::write(&file, &run.answers).unwrap();
+        let found = python(&[OsStr::new("names"), OsStr::new(form), file.as_os_str()]);
+        let found: Vec<String> = text(&found.answers).lines().map(String::from).collect();
+        assert_eq!(found, expected, "{form}");
+    }
+    // For people a name stays on its line and changes nothing of the terminal.
+    let mut words = vec![OsString::from("register")];
+    words.extend(names.iter().cloned());
+    let shown = text(&tool(&room, &words).answers);
+    assert_eq!(
+        shown
+            .lines()
+            .filter(|line| line.ends_with(": accepted"))
+            .count(),
+        names.len()
+    );
+    assert!(!shown.contains(&['\x1b', '\r', '\x0b'][..]), "{shown}");
+}
+
+#[test]
+fn quiet_forms_leave_out_what_is_accepted() {
+    let room = room("quiet-forms");
+    write(&room, "good.rom", &good());
+    write(&room, "bad.rom", &changed(LEVEL_ONE + 16, &[0x77]));
+    for form in ["json", "csv"] {
+        let option = format!("--{form}");
+        let run = tool(
+            &room,
+            &[
+                "register", "--quiet", &option, "good.rom", "bad.rom", "none.rom",
+            ],
+        );
+        assert_eq!(run.status, Some(3));
+        let file = room.join(form);
+        fs::write(&file, &run.answers).unwrap();
+        let found = python(&[OsStr::new("names"), OsStr::new(form), file.as_os_str()]);
+        let hex = |name: &str| {
+            name.bytes()
+                .map(|byte| format!("{byte:02x}"))
+                .collect::<String>()
+        };
+        let expected = format!("{}\n{}\n", hex("bad.rom"), hex("none.rom"));
+        assert_eq!(text(&found.answers), expected, "{form}");
+    }
+}
+
+// ---- help
+
+#[test]
+fn every_command_has_its_help() {
+    let room = room("help");
+    let all = text(&tool(&room, &["--help"]).answers);
+    let commands: Vec<&str> = all
+        .lines()
+        .filter_map(|line| line.strip_prefix("  kpalumere "))
+        .filter_map(|words| words.split(' ').next())
+        .filter(|name| name.starts_with(|first: char| first.is_ascii_lowercase()))
+        .collect();
+    for expected in ["register", "explain", "mailbox", "ask"] {
+        assert!(commands.contains(&expected), "{commands:?}");
+    }
+    for name in commands {
+        let shown = [[name, "--help"], [name, "-h"], ["help", name]].map(|words| {
+            let run = tool(&room, &words);
+            assert_eq!(
+                (run.status, text(&run.said)),
+                (Some(0), String::new()),
+                "{words:?}"
+            );
+            text(&run.answers)
+        });
+        assert!(
+            shown[0].starts_with(&format!("kpalumere {name}")),
+            "{}",
+            shown[0]
+        );
+        assert!(shown[0] == shown[1] && shown[1] == shown[2], "{name}");
+    }
+}
+
+#[test]
+fn every_refusal_is_explained() {
+    let room = room("explain");
+    let list = text(&tool(&room, &["explain"]).answers);
+    for number in 1..=17u64 {
+        let run = tool(&room, &["explain".to_string(), number.to_string()]);
+        assert_eq!((run.status, text(&run.said)), (Some(0), String::new()));
+        let page = text(&run.answers);
+        let head = page.lines().next().unwrap_or_default();
+        let title = head
+            .strip_prefix(&format!("refused {number}: "))
+            .expect(head);
+        assert!(list.contains(&format!("{number:>4}  {title}\n")), "{title}");
+        for part in ["It means:", "Usual causes:", "Look at:"] {
+            assert!(page.lines().any(|line| line == part), "{number}: {part}");
+        }
+    }
+}
