@@ -6,6 +6,11 @@ use std::ffi::OsStr;
 use std::io::Read;
 use std::process::{Command, Stdio};
 
+/// The commands that show or write something for people.
+const COMMANDS: [&str; 9] = [
+    "register", "find", "entry", "extract", "build", "aspt", "guids", "explain", "mailbox",
+];
+
 /// The tool with some words, and nothing on standard input.
 fn tool(words: &[&str]) -> Run {
     run(command(words), b"")
@@ -36,6 +41,15 @@ fn help_and_version_are_printed() {
         let run = tool(words);
         assert_eq!((run.status, text(&run.said)), (Some(0), String::new()));
         assert!(text(&run.answers).contains("buffer NAME LENGTH [BYTE]"));
+    }
+    for name in COMMANDS {
+        for words in [[name, "--help"], [name, "-h"], ["help", name]] {
+            let run = tool(&words);
+            assert_eq!((run.status, text(&run.said)), (Some(0), String::new()));
+            let begins = format!("kpalumere {name} ");
+            assert!(text(&run.answers).starts_with(&begins), "{words:?}");
+            assert!(text(&run.answers).contains("\nStatus: 0"), "{words:?}");
+        }
     }
     let run = tool(&["--version"]);
     assert_eq!(run.status, Some(0));

@@ -1,6 +1,7 @@
 //! `kpalumere register` as people and programs use it: what it shows of a sample and of refused images, on wide terminals and
 //! narrow ones; its JSON and CSV, read by Python and held against the second program; many images; its statuses.
 
+use agree::board::entry;
 use agree::cases;
 use agree::programs::{built, built_folder, run, Program, Run};
 use agree::subjects::directory::{Directory, Entry};
@@ -17,17 +18,6 @@ const EFS: usize = 0x2_0000;
 const LEVEL_ONE: usize = 0x2_1000;
 const LEVEL_TWO: usize = 0x2_3800;
 const LENGTH: usize = 0x2_8000;
-
-/// An entry that keeps to the rules.
-fn entry(class: u8, subprogram: u8, size: u32, location: u64, mode: u64) -> Entry {
-    Entry {
-        class,
-        subprogram,
-        reserved: 0,
-        size,
-        word: location | mode << 62,
-    }
-}
 
 /// A board with an EFS that leads to level one, and the directories given.
 fn board(one: &Directory, two: &Directory) -> Vec<u8> {

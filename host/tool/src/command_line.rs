@@ -2,7 +2,7 @@
 
 use crate::ending::Ending;
 use crate::words::shown;
-use crate::{ask, explain, help, mailbox, register};
+use crate::{ask, aspt, build, entry, explain, extract, find, guids, help, mailbox, register};
 use std::ffi::OsString;
 use std::os::unix::ffi::OsStrExt;
 
@@ -25,6 +25,12 @@ pub type Job = Box<dyn FnOnce() -> Ending>;
 /// The commands, in the order in which the help shows them.
 pub static COMMANDS: &[&Command] = &[
     &register::COMMAND,
+    &find::COMMAND,
+    &entry::COMMAND,
+    &extract::COMMAND,
+    &build::COMMAND,
+    &aspt::COMMAND,
+    &guids::COMMAND,
     &explain::COMMAND,
     &mailbox::COMMAND,
     &ask::COMMAND,

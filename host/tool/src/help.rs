@@ -47,7 +47,7 @@ fn usages() -> String {
         let form = format!("  kpalumere {words} ");
         text.push_str(&match form.len() <= COLUMNS {
             true => format!("{form:<COLUMNS$}{does}\n"),
-            false => format!("{form}\n{:COLUMNS$}{does}\n", ""),
+            false => format!("{}\n{:COLUMNS$}{does}\n", form.trim_end(), ""),
         });
     };
     for command in COMMANDS {

@@ -61,7 +61,6 @@ pub fn entry_type_words(code: u64) -> &'static str {
 }
 
 /// A TYPE as people write it: a number of 8 bits, or a name of [`ENTRY_TYPES`]. The error says what to write.
-#[allow(dead_code)] // For commands that are given a type.
 pub fn read_entry_type(word: &OsStr) -> Result<u8, String> {
     if let Some(known) = ENTRY_TYPES.iter().find(|known| word == known.name) {
         return Ok(known.code);
@@ -76,6 +75,41 @@ pub fn read_entry_type(word: &OsStr) -> Result<u8, String> {
                 .map(|known| known.name)
                 .collect::<Vec<_>>()
                 .join(", ")
+        )),
+    }
+}
+
+/// The names of the entry types with their codes, as a help shows them: in columns, and with a line before them.
+pub fn list_of_types() -> String {
+    const ACROSS: usize = 4;
+    let mut text = String::from("The names of entry types:\n");
+    for row in ENTRY_TYPES.chunks(ACROSS) {
+        let cells: Vec<String> = row
+            .iter()
+            .map(|known| format!("{:#04x} {:<22}", known.code, known.name))
+            .collect();
+        text.push_str(&format!("  {}\n", cells.join("  ").trim_end()));
+    }
+    text
+}
+
+/// What people write for the address modes 0 to 3.
+const ADDRESS_MODES: [&str; 4] = ["physical", "image", "directory", "partition"];
+
+/// A MODE as people write it: a name of [`ADDRESS_MODES`], or a number. The error says what to write.
+pub fn read_address_mode(word: &[u8]) -> Result<u32, String> {
+    if let Some(mode) = ADDRESS_MODES
+        .iter()
+        .position(|name| name.as_bytes() == word)
+    {
+        return Ok(mode as u32);
+    }
+    match word.first() {
+        Some(byte) if byte.is_ascii_digit() => numbers::number32("MODE", word),
+        _ => Err(format!(
+            "MODE is {}, which is no address mode; write {}, or its number 0 to 3",
+            shown(word),
+            ADDRESS_MODES.join(", ")
         )),
     }
 }
@@ -117,6 +151,28 @@ mod tests {
             let message = read_entry_type(OsStr::new(word)).unwrap_err();
             assert!(message.starts_with("TYPE is "), "{message}");
             assert!(message.contains("; write "), "{message}");
+        }
+    }
+
+    #[test]
+    fn a_mode_is_read_as_a_name_or_a_number() {
+        for (mode, name) in (0..).zip(ADDRESS_MODES) {
+            assert_eq!(read_address_mode(name.as_bytes()), Ok(mode));
+            assert_eq!(read_address_mode(mode.to_string().as_bytes()), Ok(mode));
+        }
+        assert_eq!(read_address_mode(b"0x4"), Ok(4));
+        for word in [&b"flash"[..], b"", b"Image", b"1x", b"4294967296"] {
+            let message = read_address_mode(word).unwrap_err();
+            assert!(message.starts_with("MODE is "), "{message}");
+            assert!(message.contains("; write "), "{message}");
+        }
+    }
+
+    #[test]
+    fn the_list_has_every_type() {
+        let list = list_of_types();
+        for known in ENTRY_TYPES {
+            assert!(list.contains(&format!("{:#04x} {}", known.code, known.name)));
         }
     }
 

@@ -1,5 +1,6 @@
 //! The words that follow a command: which of them are options, which are not, and how a message shows one.
 
+use crate::numbers;
 use std::ffi::{OsStr, OsString};
 use std::os::unix::ffi::{OsStrExt, OsStringExt};
 
@@ -10,6 +11,18 @@ pub struct CommandOption {
     /// What follows it, as the help shows it; none where it stands alone.
     pub takes: Option<&'static str>,
 }
+
+/// The answer is written for programs.
+pub const JSON: CommandOption = CommandOption {
+    name: "--json",
+    takes: None,
+};
+
+/// A file that is there may be written over.
+pub const FORCE: CommandOption = CommandOption {
+    name: "--force",
+    takes: None,
+};
 
 /// The words that follow a command, once its options are taken out.
 #[derive(Debug, PartialEq, Eq)]
@@ -80,7 +93,6 @@ impl Words {
     }
 
     /// What follows an option, where it is given.
-    #[allow(dead_code)] // For commands with an option that takes a value.
     pub fn value(&self, option: &str) -> Option<&OsStr> {
         let given = self.options.iter().find(|(name, _)| *name == option);
         given.and_then(|(_, value)| value.as_deref())
@@ -104,6 +116,23 @@ impl Words {
         }
     }
 
+    /// A number from 0 to `most`: the word at a place among those that are no options.
+    pub fn number(&self, role: &str, at: usize, most: u64) -> Result<u64, String> {
+        numbers::number(role, self.others[at].as_bytes(), most).map_err(|wrong| self.unfit(&wrong))
+    }
+
+    /// A number from 0 to `most` after an option, where the option is given.
+    pub fn number_after(&self, option: &str, most: u64) -> Result<Option<u64>, String> {
+        let number = |word: &OsStr| numbers::number(option, word.as_bytes(), most);
+        let given = self.value(option).map(number).transpose();
+        given.map_err(|wrong| self.unfit(&wrong))
+    }
+
+    /// The message for a word that is not what it should be.
+    pub fn unfit(&self, wrong: &str) -> String {
+        self.wrong(&format!("cannot use its words: {wrong}"))
+    }
+
     /// The message for words that are wrong: what is wrong, and where the right ones stand.
     pub fn wrong(&self, what: &str) -> String {
         let command = self.command;
@@ -124,10 +153,7 @@ mod tests {
     use super::*;
 
     static OPTIONS: &[CommandOption] = &[
-        CommandOption {
-            name: "--json",
-            takes: None,
-        },
+        JSON,
         CommandOption {
             name: "--out",
             takes: Some("FILE"),
@@ -194,6 +220,25 @@ mod tests {
         ] {
             let message = part(words).unwrap().expect(&roles).unwrap_err();
             assert!(message.starts_with(what), "{message}");
+        }
+    }
+
+    #[test]
+    fn numbers_are_read_from_words_and_after_options() {
+        let words = part(&["0x10", "x", "--out", "7"]).unwrap();
+        assert_eq!(words.number("SUB", 0, 16), Ok(16));
+        assert_eq!(words.number_after("--out", 7), Ok(Some(7)));
+        assert_eq!(words.number_after("--json", 7), Ok(None));
+        for message in [
+            words.number("SUB", 0, 15).unwrap_err(),
+            words.number("SUB", 1, 15).unwrap_err(),
+            words.number_after("--out", 6).map(|_| ()).unwrap_err(),
+        ] {
+            assert!(
+                message.starts_with("find cannot use its words: "),
+                "{message}"
+            );
+            assert!(message.ends_with(". `kpalumere find --help` has its words."));
         }
     }
 

@@ -3,15 +3,13 @@
 use super::facts::{Asked, Facts, Level, Row};
 use super::outcome::{Outcome, Source, Summary};
 use crate::csv;
+use crate::entry_shown::EntryShown;
+use crate::images::name_for_programs;
+pub use crate::images::FORMAT;
 use crate::json::Json;
 use crate::names;
-use crate::numbers::hexadecimal;
 use crate::refusals;
 use bindings::Answer;
-use std::os::unix::ffi::OsStrExt;
-
-/// The number of the forms: it rises where a field goes away or means something else.
-pub const FORMAT: u64 = 1;
 
 // ---- JSON
 
@@ -91,20 +89,13 @@ fn level(level: &Level) -> Json {
 }
 
 fn entry(index: usize, row: &Row) -> Json {
-    let Row { entry, part, .. } = row;
-    Json::Object(vec![
-        ("index", Json::Number(index as u64)),
-        ("type", Json::Number(entry.class)),
-        ("name", name_of_type(entry.class)),
-        ("subprogram", Json::Number(entry.subprogram)),
-        ("size", Json::Number(entry.size)),
-        ("mode", Json::Number(entry.mode)),
-        ("location", Json::Text(format!("{:#x}", entry.location))),
-        ("place", field(*part, |part| part.place)),
-        ("length", field(*part, |part| part.length)),
-        ("refused", refusals::json(part)),
-        ("version", version(Some(row))),
-    ])
+    let shown = EntryShown {
+        entry: row.entry,
+        part: row.part,
+    };
+    let mut fields = shown.fields(index as u64);
+    fields.push(("version", version(Some(row))));
+    Json::Object(fields)
 }
 
 fn asked(asked: &Asked) -> Json {
@@ -138,11 +129,8 @@ fn name_of(source: &Source) -> (Option<String>, Option<String>) {
     match source {
         Source::Sample => (None, None),
         Source::File(name) => {
-            let bytes = match name.to_str() {
-                Some(_) => None,
-                None => Some(hexadecimal(name.as_bytes())),
-            };
-            (Some(name.to_string_lossy().into_owned()), bytes)
+            let (text, bytes) = name_for_programs(name);
+            (Some(text), bytes)
         }
     }
 }

@@ -11,7 +11,7 @@ use crate::ending::Ending;
 use crate::layout::Page;
 use crate::progress::Progress;
 use crate::terminal;
-use crate::words::{CommandOption, Words};
+use crate::words::{CommandOption, Words, JSON};
 use outcome::{Outcome, Source, Summary};
 use std::ffi::OsString;
 use std::io::{self, BufWriter, Write};
@@ -54,10 +54,7 @@ is, unless level one leads to none; or where one of the questions meets a fault.
 ";
 
 static OPTIONS: &[CommandOption] = &[
-    CommandOption {
-        name: "--json",
-        takes: None,
-    },
+    JSON,
     CommandOption {
         name: "--csv",
         takes: None,
@@ -85,7 +82,7 @@ struct Request {
 
 fn read(words: &[OsString]) -> Result<Job, String> {
     let mut words = Words::part(COMMAND.name, OPTIONS, words)?;
-    let form = match (words.has("--json"), words.has("--csv")) {
+    let form = match (words.has(JSON.name), words.has("--csv")) {
         (true, true) => return Err(words.wrong("takes --json or --csv, and not both")),
         (true, false) => Form::Json,
         (false, true) => Form::Csv,

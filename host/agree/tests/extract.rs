@@ -1,0 +1,261 @@
+//! `kpalumere extract` as people use it: what it writes, and what it never writes over.
+
+use agree::board::{Board, LENGTH};
+use agree::programs::{built, run};
+use agree::workplace::{Outcome, Workplace};
+use std::fs::{self, Permissions};
+use std::os::unix::fs::{symlink, PermissionsExt};
+use std::process::Command;
+
+/// The words that take the public key, entry 0 of level one, into a file.
+fn key_into<'a>(file: &'a str, more: &[&'a str]) -> Vec<&'a str> {
+    let words = ["extract", "board.rom", "1", "0", file];
+    [&words[..], more].concat()
+}
+
+/// The bytes of that entry.
+fn key() -> Vec<u8> {
+    Board::new().bytes()[0x2_2000..0x2_2240].to_vec()
+}
+
+/// What is written about them.
+fn told(file: &str) -> String {
+    format!(
+        "{file:?} holds the 576 bytes of entry 0 of level 1, 0x00 AMD public key: \
+         0x22000 to 0x2223f of the image\n"
+    )
+}
+
+fn with_board(name: &str) -> Workplace {
+    let place = Workplace::new(name);
+    place.put("board.rom", Board::new().bytes());
+    place
+}
+
+/// The board is as it was, and these are all the files beside it.
+fn board_is_kept(place: &Workplace, others: &[&str]) {
+    assert!(place.get("board.rom") == Board::new().bytes());
+    let mut names = [&["board.rom"], others].concat();
+    names.sort_unstable();
+    assert_eq!(place.names(), names);
+}
+
+#[test]
+fn the_bytes_of_an_entry_are_written() {
+    let place = with_board("extract");
+    place
+        .tool(&key_into("key.bin", &[]))
+        .expect(0, &told("key.bin"));
+    assert_eq!(place.get("key.bin"), key());
+    let expected = "\"boot.bin\" holds the 3072 bytes of entry 0 of level 2, 0x01 boot loader: \
+                    0x29000 to 0x29bff of the image\n";
+    place
+        .tool(&["extract", "board.rom", "2", "0", "boot.bin"])
+        .expect(0, expected);
+    assert_eq!(
+        place.get("boot.bin"),
+        Board::new().bytes()[0x2_9000..0x2_9C00]
+    );
+    board_is_kept(&place, &["boot.bin", "key.bin"]);
+}
+
+#[test]
+fn an_entry_without_bytes_makes_an_empty_file_and_one_at_the_end_all_of_it() {
+    let place = with_board("extract-limits");
+    let expected =
+        "\"none.bin\" holds the 0 bytes of entry 3 of level 2, 0x13 debug unlock image: \
+                    none, at 0x30000 of the image\n";
+    place
+        .tool(&["extract", "board.rom", "2", "3", "none.bin"])
+        .expect(0, expected);
+    assert_eq!(place.get("none.bin"), b"");
+    // Entry 2 is one byte too long; with that byte less it ends at the image's last.
+    place.put(
+        "fits.rom",
+        Board::with(|board| board.two.entries[2].size -= 1),
+    );
+    let expected = "\"last.bin\" holds the 256 bytes of entry 2 of level 2, 0x5a unnamed type: \
+                    0x2ff00 to 0x2ffff of the image\n";
+    place
+        .tool(&["extract", "fits.rom", "2", "2", "last.bin"])
+        .expect(0, expected);
+    assert_eq!(
+        place.get("last.bin"),
+        Board::new().bytes()[0x2_FF00..LENGTH]
+    );
+}
+
+#[test]
+fn what_is_refused_writes_nothing() {
+    let place = with_board("extract-refused");
+    place.put("bad.rom", Board::with(|board| board.one.wrong = 1));
+    place.put("kept.bin", "kept");
+    for (image, level, index, told) in [
+        ("board.rom", "1", "2", "refused 17: the entry holds a value"),
+        ("board.rom", "1", "4", "refused 16: address mode 3"),
+        (
+            "board.rom",
+            "2",
+            "2",
+            "refused 7: address outside the image",
+        ),
+        (
+            "board.rom",
+            "1",
+            "5",
+            "refused 8: no such entry, pointer or post",
+        ),
+        (
+            "board.rom",
+            "3",
+            "0",
+            "refused 9: level, caller or command out of range",
+        ),
+        ("bad.rom", "1", "0", "refused 4: checksum is wrong"),
+    ] {
+        let expected = format!("{told}; nothing is written\n");
+        place
+            .tool(&["extract", image, level, index, "new.bin"])
+            .expect(1, &expected);
+        place
+            .tool(&["extract", image, level, index, "kept.bin", "--force"])
+            .expect(1, &expected);
+    }
+    assert_eq!(place.get("kept.bin"), b"kept");
+    board_is_kept(&place, &["bad.rom", "kept.bin"]);
+}
+
+#[test]
+fn a_file_that_is_there_is_kept_unless_force_is_given() {
+    let place = with_board("extract-force");
+    place.put("key.bin", "what was there");
+    fs::set_permissions(place.path("key.bin"), Permissions::from_mode(0o640)).unwrap();
+    place.tool(&key_into("key.bin", &[])).expect_message(
+        3,
+        "\"key.bin\" is there already, and is left as it is. \
+         Name another file, or say --force to write over this one.",
+    );
+    assert_eq!(place.get("key.bin"), b"what was there");
+    place
+        .tool(&key_into("key.bin", &["--force"]))
+        .expect(0, &told("key.bin"));
+    assert_eq!(place.get("key.bin"), key());
+    let mode = fs::metadata(place.path("key.bin")).unwrap().permissions();
+    assert_eq!(mode.mode() & 0o777, 0o640);
+    // Force is no fault where nothing is in the way.
+    place
+        .tool(&key_into("new.bin", &["--force"]))
+        .expect(0, &told("new.bin"));
+    board_is_kept(&place, &["key.bin", "new.bin"]);
+}
+
+#[test]
+fn the_image_is_never_written_over_by_whatever_name() {
+    let place = with_board("extract-same");
+    fs::create_dir(place.path("folder")).unwrap();
+    symlink("board.rom", place.path("soft")).unwrap();
+    symlink("../soft", place.path("folder/softer")).unwrap();
+    fs::hard_link(place.path("board.rom"), place.path("hard")).unwrap();
+    for file in ["board.rom", "./board.rom", "soft", "folder/softer", "hard"] {
+        for more in [&[][..], &["--force"]] {
+            place.tool(&key_into(file, more)).expect_message(
+                3,
+                &format!(
+                    "{file:?} is the file that is read, and is left as it is. Name another file."
+                ),
+            );
+        }
+    }
+    // The same where the image is read through a link.
+    let outcome = place.tool(&["extract", "hard", "1", "0", "soft", "--force"]);
+    assert_eq!(outcome.status, Some(3));
+    board_is_kept(&place, &["folder", "hard", "soft"]);
+}
+
+#[test]
+fn a_link_stays_a_link_and_what_it_leads_to_is_replaced() {
+    let place = with_board("extract-link");
+    place.put("key.bin", "old");
+    symlink("key.bin", place.path("link")).unwrap();
+    let outcome = place.tool(&key_into("link", &[]));
+    assert_eq!(outcome.status, Some(3));
+    assert_eq!(place.get("key.bin"), b"old");
+    place
+        .tool(&key_into("link", &["--force"]))
+        .expect(0, &told("link"));
+    assert_eq!(place.get("key.bin"), key());
+    assert!(fs::symlink_metadata(place.path("link"))
+        .unwrap()
+        .is_symlink());
+    board_is_kept(&place, &["key.bin", "link"]);
+}
+
+#[test]
+fn what_cannot_be_written_is_told_and_left_as_it_is() {
+    let place = with_board("extract-unwritten");
+    fs::create_dir(place.path("folder")).unwrap();
+    symlink("nowhere", place.path("dangling")).unwrap();
+    let made = Command::new("mkfifo").arg(place.path("pipe")).status();
+    assert!(made.unwrap().success());
+    for (file, more) in [
+        ("missing/key.bin", &[][..]),
+        ("missing/key.bin", &["--force"]),
+        ("board.rom/key.bin", &["--force"]),
+        ("folder", &["--force"]),
+        ("pipe", &["--force"]),
+        ("dangling", &["--force"]),
+        ("", &[]),
+    ] {
+        let outcome = place.tool(&key_into(file, more));
+        let begins = format!("kpalumere: {file:?} cannot be written: ");
+        let ends = "Name a file in a folder that is there, has room, and lets you write.\n";
+        assert_eq!((outcome.status, outcome.wrote.as_str()), (Some(3), ""));
+        assert!(outcome.said.starts_with(&begins), "{outcome:?}");
+        assert!(outcome.said.ends_with(ends), "{outcome:?}");
+    }
+    board_is_kept(&place, &["dangling", "folder", "pipe"]);
+    assert_eq!(fs::read_dir(place.path("folder")).unwrap().count(), 0);
+}
+
+#[test]
+fn a_failure_in_the_middle_leaves_the_old_file_whole_and_no_other() {
+    let place = with_board("extract-full");
+    place.put("boot.bin", "old");
+    // No file may grow beyond one block of 512 bytes, so that the third kilobyte cannot be written.
+    let limited = "ulimit -f 1; trap '' XFSZ; exec \"$@\"";
+    for (file, more) in [("boot.bin", Some("--force")), ("new.bin", None)] {
+        let mut command = Command::new("sh");
+        command
+            .args(["-c", limited, "sh"])
+            .args(built("kpalumere"))
+            .args(["extract", "board.rom", "2", "0", file])
+            .args(more)
+            .current_dir(place.folder());
+        let outcome = Outcome::of(run(command, b""));
+        assert_eq!(outcome.status, Some(3), "{outcome:?}");
+        assert!(outcome.said.contains("cannot be written: "), "{outcome:?}");
+    }
+    assert_eq!(place.get("boot.bin"), b"old");
+    board_is_kept(&place, &["boot.bin"]);
+}
+
+#[test]
+fn wrong_words_end_with_2_and_an_image_that_is_not_there_with_3() {
+    let place = with_board("extract-words");
+    for words in [
+        &["extract", "board.rom", "1", "0"][..],
+        &["extract", "board.rom", "1", "0", "a", "b"],
+        &["extract", "board.rom", "1", "zero", "a"],
+        &["extract", "board.rom", "1", "0", "a", "--json"],
+        &["extract", "board.rom", "1", "0", "a", "--force=yes"],
+    ] {
+        let outcome = place.tool(words);
+        assert_eq!((outcome.status, outcome.wrote.as_str()), (Some(2), ""));
+        assert!(outcome
+            .said
+            .ends_with("`kpalumere extract --help` has its words.\n"));
+    }
+    let outcome = place.tool(&["extract", "none.rom", "1", "0", "a"]);
+    assert_eq!((outcome.status, outcome.wrote.as_str()), (Some(3), ""));
+    board_is_kept(&place, &[]);
+}
