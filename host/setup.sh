@@ -29,6 +29,9 @@ choose_compilers() {
         rust_flags='-C target-feature=+crt-static -C relocation-model=static'
         export CARGO_TARGET_X86_64_UNKNOWN_LINUX_GNU_LINKER=$c_compiler
         export CARGO_TARGET_X86_64_UNKNOWN_LINUX_GNU_RUNNER=$emulator
+        # A program with threads that starts another may hang in the emulator, whose small pieces of memory have a lock that a
+        # fork does not open again. Taken from malloc they have none.
+        export G_SLICE=always-malloc
     fi
     [ "$rustc" = rustc ] || export RUSTC=$rustc
     export CARGO_TARGET_X86_64_UNKNOWN_LINUX_GNU_RUSTFLAGS=$rust_flags

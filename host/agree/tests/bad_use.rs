@@ -1,6 +1,7 @@
 //! Bad use of the tool: files that are none, streams that are closed or full, scripts that are cut off or are noise. Whatever
 //! it is given, a command ends by itself, with a status of its own and a message that says what is wrong.
 
+use agree::board::Board;
 use agree::cases;
 use agree::compare::answers_of;
 use agree::programs::{built, end_of, run, Program, Run};
@@ -34,7 +35,43 @@ struct Reader {
 /// Stands for the file's name in a command.
 const FILE: &str = "FILE";
 
-const READERS: [Reader; 2] = [
+/// A command on the bytes of an image or a table: no bytes are refused, as zeros are, and more than 64 MiB are not read.
+const fn on_bytes(
+    words: &'static [&'static str],
+    over_input: &'static [&'static str],
+    good: fn(&Path) -> PathBuf,
+) -> Reader {
+    Reader {
+        words,
+        over_input,
+        good,
+        status: 0,
+        empty: 1,
+        largest: 1,
+        larger: 3,
+    }
+}
+
+/// A board, put into a folder.
+fn board(folder: &Path) -> PathBuf {
+    put(folder, "board.rom", &Board::new().bytes())
+}
+
+/// An image with a GUID table of no entries, put into a folder.
+fn guid_table(folder: &Path) -> PathBuf {
+    let mut image = vec![18, 0];
+    image.extend(b"\xde\x82\xb5\x96\xb2\x1f\xf7\x45\xba\xea\xa3\x66\xc5\x5a\x08\x2d");
+    image.extend([0; 32]);
+    put(folder, "guids.fd", &image)
+}
+
+fn put(folder: &Path, name: &str, bytes: &[u8]) -> PathBuf {
+    let path = folder.join(name);
+    fs::write(&path, bytes).expect("a file can be written");
+    path
+}
+
+const READERS: [Reader; 7] = [
     // A script is answered line by line, so that it may be of any length: the zeros are one bad line.
     Reader {
         words: &["ask", FILE],
@@ -53,6 +90,20 @@ const READERS: [Reader; 2] = [
         empty: 0,
         largest: 1,
         larger: 3,
+    },
+    on_bytes(&["register", FILE], &["register", "-"], board),
+    on_bytes(
+        &["find", FILE, "boot-loader", "0"],
+        &["find", "-", "1", "0", "--json"],
+        board,
+    ),
+    on_bytes(&["entry", FILE, "1", "0"], &["entry", "-", "1", "0"], board),
+    on_bytes(&["guids", FILE], &["guids", "-"], guid_table),
+    Reader {
+        // A script is no table, which is shown as a refusal.
+        good: |_| PathBuf::from("lines.ask"),
+        status: 1,
+        ..on_bytes(&["aspt", FILE], &["aspt", "-", "--json"], board)
     },
 ];
 
@@ -185,16 +236,21 @@ fn held(command: &Command, run: &Run) {
     assert!(own, "{command:?} says {said}");
 }
 
-/// Runs a command that cannot do its work: the status is 3, nothing is answered, and the message has these words.
+/// Runs a command that cannot do its work: the status is 3, nothing is answered but, by `register`, that the image was not read,
+/// and the message has these words.
 fn fails(command: &mut Command, words: &[&str]) {
     let run = ended(command);
     let said = String::from_utf8_lossy(&run.said);
     let answered = String::from_utf8_lossy(&run.answers);
-    assert_eq!(
-        (run.status, &*answered),
-        (Some(3), ""),
-        "{command:?}: {said}"
-    );
+    assert_eq!(run.status, Some(3), "{command:?}: {said}");
+    let of_register = command.get_args().any(|word| word == "register");
+    match of_register && !answered.is_empty() {
+        true => assert!(
+            answered.ends_with(": not read\n"),
+            "{command:?}: {answered}"
+        ),
+        false => assert_eq!(answered, "", "{command:?}: {said}"),
+    }
     for word in words {
         assert!(said.contains(word), "{command:?} says no {word:?}: {said}");
     }

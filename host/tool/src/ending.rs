@@ -1,5 +1,6 @@
 //! How a run of the tool ends, and the status that tells it.
 
+use crate::standard_error::say;
 use std::io;
 
 /// How a run ends.
@@ -41,10 +42,10 @@ impl Ending {
         if error.kind() == io::ErrorKind::BrokenPipe {
             return Ending::Done;
         }
-        eprintln!(
+        say(&format!(
             "kpalumere: the output cannot be written: {error}. Write it to a place that has room, \
              and start again."
-        );
+        ));
         Ending::NotReadOrWritten
     }
 }

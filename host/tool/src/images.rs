@@ -3,10 +3,10 @@
 use crate::ending::Ending;
 use crate::json::Json;
 use crate::numbers::hexadecimal;
+use crate::opening::open;
 use crate::showing::Fields;
 use crate::standard_error::say;
 use std::ffi::OsStr;
-use std::fs::File;
 use std::io::{self, Read};
 use std::os::unix::ffi::OsStrExt;
 
@@ -47,10 +47,9 @@ fn read_up_to(name: &OsStr, most: u64) -> io::Result<Vec<u8>> {
         io::stdin().lock().take(most).read_to_end(&mut bytes)?;
         return Ok(bytes);
     }
-    let file = File::open(name)?;
+    let file = open(name)?;
     // Room for the whole file at once, where the system tells its length.
-    let length = file.metadata().map_or(0, |known| known.len());
-    bytes.reserve_exact(length.min(most) as usize + 1);
+    bytes.reserve_exact(file.length().min(most) as usize + 1);
     file.take(most).read_to_end(&mut bytes)?;
     Ok(bytes)
 }

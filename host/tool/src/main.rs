@@ -36,7 +36,7 @@ fn main() -> ExitCode {
     let ending = match command_line::read(std::env::args_os().skip(1)) {
         Ok(job) => job(),
         Err(wrong) => {
-            eprintln!("{wrong}");
+            standard_error::say(&wrong);
             Ending::WrongWords
         }
     };

@@ -3,7 +3,7 @@
 use super::call::{BadLine, Call};
 use super::lines::{as_hex, hex, name, number, number8, shown};
 use super::State;
-use crate::opening::open;
+use crate::opening::{open, Opened};
 use std::collections::BTreeMap;
 use std::ffi::OsStr;
 use std::io::Read;
@@ -103,6 +103,7 @@ fn file(state: &mut State, words: &[&[u8]]) -> Result<String, BadLine> {
     let name = name("NAME", words[0])?;
     let mut bytes = Vec::new();
     open(OsStr::from_bytes(words[1]))
+        .and_then(Opened::no_pipe)
         .and_then(|file| file.take(MOST_BYTES + 1).read_to_end(&mut bytes))
         .map_err(|error| {
             BadLine::new(format!(

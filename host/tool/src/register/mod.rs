@@ -10,6 +10,7 @@ use crate::command_line::{Command, Job};
 use crate::ending::Ending;
 use crate::layout::Page;
 use crate::progress::Progress;
+use crate::standard_error::say;
 use crate::terminal;
 use crate::words::{CommandOption, Words, JSON};
 use outcome::{Outcome, Source, Summary};
@@ -126,7 +127,7 @@ fn write_all(request: &Request, out: &mut dyn Write) -> io::Result<Ending> {
         let outcome = Outcome::of(source);
         progress.clear();
         if let Outcome::Unread(message) = &outcome {
-            eprintln!("{message}");
+            say(message);
         }
         ending = ending.and(outcome.ending());
         summary.count(&outcome);
