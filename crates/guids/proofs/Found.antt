@@ -80,17 +80,17 @@ entry-given = record {
 }
 
 module _ (s : List ℕ) (long : 50 ≤ length s) (foot : guidAt s (length s - 48) ≡ footer) where
-  m9 : totalAt s ≡ 18 → tableOf s ≡ given (record { total = 18; entries = 0 })
+  total-18 : totalAt s ≡ 18 → tableOf s ≡ given (record { total = 18; entries = 0 })
   unfolding headerOf
-  m9 e =
+  total-18 e =
       let h : headerOf s ≡ given 18 = simp (le-leb 50 (length s) long, true-same _ _ foot, e, le-leb 18 (length s - 32) (omega arith)) in
       rw (h, walk-end s (length s - 50) (18 - 18) refl, e)
 
-  m10 : totalAt s < 18 → tableOf s ≡ refused 3 alone
+  total-below : totalAt s < 18 → tableOf s ≡ refused 3 alone
   unfolding headerOf
-  m10 l =
+  total-below l =
       let h : headerOf s ≡ refused 3 alone = simp (le-leb 50 (length s) long, true-same _ _ foot, lt-leb 18 (totalAt s) l) in
       rw h
 
 pub least-total : LeastTotal
-least-total = record { M9 = m9; M10 = m10 }
+least-total = record { none = total-18; fewer = total-below }

@@ -30,7 +30,7 @@ pub record EntryGiven : Type 0 where
   pub behind : (s : List ℕ) (entries : List Entry) (i : ℕ) → entriesOf s ≡ given entries → length entries ≤ i → entryOf s i ≡ refused 8 alone
   pub checked : (s : List ℕ) (i w : ℕ) (c : Carried) → entriesOf s ≡ refused w c → entryOf s i ≡ refused w c
 
--- where the footer stands, a total of 18 is accepted and has no entries (M9), and a total below, as 17 (M10), is refused with 3
+-- where the footer stands, a total of 18 is accepted and has no entries, and a total below is refused with 3
 pub record LeastTotal : Type 0 where
-  pub M9 : (s : List ℕ) → 50 ≤ length s → guidAt s (length s - 48) ≡ footer → totalAt s ≡ 18 → tableOf s ≡ given (record { total = 18; entries = 0 })
-  pub M10 : (s : List ℕ) → 50 ≤ length s → guidAt s (length s - 48) ≡ footer → totalAt s < 18 → tableOf s ≡ refused 3 alone
+  pub none : (s : List ℕ) → 50 ≤ length s → guidAt s (length s - 48) ≡ footer → totalAt s ≡ 18 → tableOf s ≡ given (record { total = 18; entries = 0 })
+  pub fewer : (s : List ℕ) → 50 ≤ length s → guidAt s (length s - 48) ≡ footer → totalAt s < 18 → tableOf s ≡ refused 3 alone
