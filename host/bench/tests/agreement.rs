@@ -114,14 +114,19 @@ const PLACES: [usize; 4] = [0, 0x100, 0x8001, 0x1_0000];
 /// An entry whose location leads, now and then, to one of the directories or to the image's end.
 fn random_entry(trial: &mut Trial, length: usize) -> NewEntry {
     let mode = trial.below(4) as u32;
+    // The places of level two more often, so that a lead often leads to one.
     let near = [
         0,
         0x100,
+        0x100,
+        0x100,
+        0x8001,
+        0x8001,
         0x8001,
         0x1_0000,
         length,
         length + 1,
-        length - length / 2,
+        length / 2,
     ];
     let offset = trial.one_of(&near) as u64;
     let location = match mode {
@@ -160,7 +165,7 @@ fn random_image(trial: &mut Trial) -> Vec<u8> {
     let mut image = vec![0; length];
     for (place, cookie) in PLACES.iter().zip([b"$PSP", b"$PL2", b"$PL2", b"$PSP"]) {
         let mut entries = random_entries(trial, length);
-        if cookie == b"$PL2" && !trial.once_in(8) {
+        if cookie == b"$PL2" && !trial.once_in(2) {
             entries.iter_mut().for_each(|entry| entry.class &= 0x3F);
         }
         let mut bytes = samples::directory_bytes(cookie, &entries);
