@@ -1,42 +1,21 @@
--- The words of an ASPT: compared one by one, and taken as they were laid out. Assumes nothing.
-use mathlib.Core.Path.{_≡_, refl, sym, ap, _∙_}
-use mathlib.Core.Bool.{Bool, true, false}
-use mathlib.Core.List.{List, [], _∷_, _++_}
+-- The words of an ASPT, taken as they were laid out. Assumes nothing.
+use mathlib.Core.Path.{_≡_, sym, ap, _∙_}
+use mathlib.Core.Bool.{true, false}
+use mathlib.Core.List.{List, _++_}
 use Prim.Native.Nat.{ℕ, _+_, _*_, _/_, _%_, _^_, _<_, _≤_}
 use native.Mathlib.Nat.{mod-eq-of-lt}
-use native.Mathlib.Numerals.{add-one}
 use native.Mathlib.Omega.{arith}
-use lib.ListN.{length, getD, drop, drop-of-length-le}
-use lib.Seq.{drop-cons}
-use borrow.Author.Tests.{le-leb, eq-eqb, ne-eqb}
+use lib.ListN.{length}
+use borrow.Author.Tests.{le-leb}
 use Rattle.reply.specs.Reply.{refused, alone}
 use Rattle.reply.proofs.ReplyLaws.{passed, failed}
+use Rattle.lent.specs.Lent.{begins}
+use Rattle.lent.proofs.Begins.{begins-front}
 use Rattle.aspt.specs.declared.Structure.{Structure}
 use Rattle.aspt.specs.declared.Table.{Table}
 use Rattle.aspt.specs.Calls.{writeOf}
 use Rattle.aspt.specs.Back.{NarrowStructure, Narrow}
-use Rattle.kpalumere.specs.AsptTable.{layTable, tableFrom, begins, writeWords, WordsTaken}
-
--- one step of the comparison, and its end
-module _ (values words : List ℕ) (i : ℕ) (r : Bool) (inv : begins (drop i values) (drop i words) ≡ r) where
-  next : (l : List ℕ) → i < length l → drop i l ≡ getD l i 0 ∷ drop (i + 1) l
-  next l h = rw (add-one, drop-cons l i 0)
-
-  pub begin-short : i < length values → length words ≤ i → false ≡ r
-  unfolding begins
-  begin-short h k = rw (next values h, drop-of-length-le words {i = i} k) at inv
-
-  pub begin-other : i < length values → i < length words → (getD words i 0 ≡ getD values i 0 → ⊥) → false ≡ r
-  unfolding begins
-  begin-other h k n = rw (next values h, next words k, ne-eqb _ _ n) at inv
-
-  pub begin-same : i < length values → i < length words → getD words i 0 ≡ getD values i 0 → begins (drop (i + 1) values) (drop (i + 1) words) ≡ r
-  unfolding begins
-  begin-same h k e = rw (next values h, next words k, eq-eqb _ _ e) at inv
-
-  pub begin-end : length values ≤ i → true ≡ r
-  unfolding begins
-  begin-end h = rw (drop-of-length-le values {i = i} h) at inv
+use Rattle.kpalumere.specs.AsptTable.{layTable, tableFrom, writeWords, WordsTaken}
 
 -- what a write of lent words answers
 module _ (words s : List ℕ) (enough : 22 ≤ length words) where
@@ -47,12 +26,6 @@ module _ (words s : List ℕ) (enough : 22 ≤ length words) where
   pub words-fail : begins (layTable (tableFrom words)) words ≡ false → refused 5 alone ≡ writeWords words s
   unfolding writeWords
   words-fail e = sym (passed _ _ _ _ (le-leb 22 (length words) enough) ∙ failed _ _ _ _ e)
-
--- a list begins with its beginning
-begins-front : (values more : List ℕ) → begins values (values ++ more) ≡ true
-unfolding begins
-begins-front [] more = refl
-begins-front (v ∷ values) more = rw (eq-eqb v v refl) (begins-front values more)
 
 -- a table is taken as it was laid out
 structure-taken : (st : Structure) → NarrowStructure st →

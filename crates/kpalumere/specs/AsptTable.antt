@@ -1,11 +1,11 @@
 -- How an ASPT is laid out in lent words, and taken from them. Assumes nothing: definitions and a statement.
 use Prim.Native.Nat.{ℕ, _+_, _*_, _/_, _%_, _^_}
 use mathlib.Core.Path.{_≡_}
-use mathlib.Core.Bool.{Bool, true, false, _&&_}
 use mathlib.Core.List.{List, [], _∷_, _++_}
 use lib.ListN.{length, getD}
-use lib.Dec.{leb, eqb}
+use lib.Dec.{leb}
 use Rattle.reply.specs.Reply.{Reply, guard}
+use Rattle.lent.specs.Lent.{begins}
 use Rattle.aspt.specs.declared.Structure.{Structure}
 use Rattle.aspt.specs.declared.Table.{Table}
 use Rattle.aspt.specs.Calls.{writeOf}
@@ -46,12 +46,6 @@ tableFrom words = record {
   second = structureFrom words 12;
   third = structureFrom words 17;
 }
-
--- the words begin with these
-unfoldable pub begins : List ℕ → List ℕ → Bool
-begins [] words = true
-begins (v ∷ values) [] = false
-begins (v ∷ values) (w ∷ words) = eqb w v && begins values words
 
 -- writing the table in lent words into a lent buffer
 unfoldable pub writeWords : List ℕ → List ℕ → Reply Unit

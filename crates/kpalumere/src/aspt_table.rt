@@ -5,7 +5,7 @@ ghost use Prim.Native.Nat.{_+_, _≤_};
 ghost use lib.ListN.{length};
 ghost use Rattle.lent.specs.Lent.{numberOf, numberLeft, wordsLeft};
 ghost use Rattle.aspt.specs.Calls.{readOf, writtenBy};
-ghost use Rattle.kpalumere.specs.AsptTable.{layTable, structureFrom, tableFrom, begins, writeWords};
+ghost use Rattle.kpalumere.specs.AsptTable.{layTable, structureFrom, tableFrom, writeWords};
 use aspt::Reading;
 use aspt::Structure;
 use aspt::Table;
@@ -93,23 +93,6 @@ fn table_from(words: &[u64]) -> Table
     }
 }
 
-// Do the words begin with these values?
-fn begin_with(words: &[u64], values: &[u64]) -> bool
-    ensures { λ r. ⌜ r ≡ begins (now (values .entry)) (now (words .entry)) ⌝ }
-{
-    let mut i: usize = 0;
-    while i < values.len() {
-        if words.len() <= i {
-            return false;
-        }
-        if words[i] != values[i] {
-            return false;
-        }
-        i += 1;
-    }
-    true
-}
-
 // Writes the table in the lent words into the buffer: fewer than twenty-two words are 1, a word that its field cannot hold is 5.
 #[no_mangle]
 pub extern "C" fn kpalumere_aspt_write(buf: &mut [u8], words: &[u64]) -> u64
@@ -121,7 +104,7 @@ pub extern "C" fn kpalumere_aspt_write(buf: &mut [u8], words: &[u64]) -> u64
     }
     let table = table_from(words);
     let values = lay(table);
-    if begin_with(words, &values) {
+    if lent::begin_with(words, &values) {
         match aspt::write(buf, table) {
             Verdict::Accepted => 0,
             Verdict::Refused(why) => why.number as u64,

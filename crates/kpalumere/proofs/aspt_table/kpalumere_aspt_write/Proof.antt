@@ -1,8 +1,8 @@
 use Rattle.kpalumere.proofs.AsptWords.{words-pass, words-fail}
-use Rattle.kpalumere.specs.AsptTable.{layTable, tableFrom, begins, writeWords}
+use Rattle.kpalumere.specs.AsptTable.{layTable, tableFrom, writeWords}
 use Rattle.aspt.specs.Calls.{writeOf, writtenBy, toldVerdict}
 use Rattle.aspt.specs.declared.Table.{Table}
-use Rattle.lent.specs.Lent.{numberOf}
+use Rattle.lent.specs.Lent.{numberOf, begins}
 use Rattle.reply.proofs.ReplyLaws.{failed}
 use Rattle.reply.specs.Reply.{alone}
 use denote.Ref.{now}
