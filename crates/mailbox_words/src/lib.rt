@@ -129,39 +129,33 @@ fn head(m: Mailbox) -> [u64; 8]
     ]
 }
 
-fn word_in(
-    head: [u64; 8],
-    line: [Post; 8],
-    places: [Place; 8],
-    all: [Interrupt; 64],
-    i: usize,
-) -> u64
-    requires { ⌜ i < 88 ⌝ }
-    ensures { λ r. ⌜ r ≡ wordIn head line places all i ⌝ }
-{
-    if i < 8 {
-        return head[i];
-    }
-    if i < 16 {
-        let post = line[i - 8];
-        return post_word(post);
-    }
-    if i < 24 {
-        let place = places[i - 16];
-        return place_word(place);
-    }
-    let interrupt = all[i - 24];
-    interrupt_word(interrupt)
-}
-
+// The words one after another. The tests stand in the loop, since a function of its own would be given the four arrays for each word.
 fn lay(head: [u64; 8], line: [Post; 8], places: [Place; 8], all: [Interrupt; 64]) -> [u64; 88]
     ensures { λ r. ⌜ r ≡ upTo (wordIn head line places all) 88 ⌝ }
 {
     let mut out = [0u64; 88];
     let mut i: usize = 0;
     while i < 88 {
-        out[i] = word_in(head, line, places, all, i);
-        i = i + 1;
+        if i < 8 {
+            out[i] = head[i];
+            i = i + 1;
+        } else {
+            if i < 16 {
+                let post = line[i - 8];
+                out[i] = post_word(post);
+                i = i + 1;
+            } else {
+                if i < 24 {
+                    let place = places[i - 16];
+                    out[i] = place_word(place);
+                    i = i + 1;
+                } else {
+                    let interrupt = all[i - 24];
+                    out[i] = interrupt_word(interrupt);
+                    i = i + 1;
+                }
+            }
+        }
     }
     out
 }
