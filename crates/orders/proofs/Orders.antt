@@ -38,6 +38,6 @@ orders = record {
   guid-start = refl;
   guid-room = refl;
   post = refl;
-  take = refl;
+  take-word = refl;
   status = refl;
 }

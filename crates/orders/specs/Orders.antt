@@ -39,5 +39,5 @@ pub record Orders : Type 0 where
   pub guid-start : Right (λ s. numberOf (guidStartOf s)) guidStartRows
   pub guid-room : Right (λ a. numberOf (guidRoomFor (a .0) (a .1) (a .2))) guidRoomRows
   pub post : Right (λ a. numberOf (postOf (a .0) (a .1) (a .2) 0 .answer)) postRows
-  pub take : Right (λ a. numberOf (takeOf (a .0) (a .1) .answer)) takeRows
+  pub take-word : Right (λ a. numberOf (takeOf (a .0) (a .1) .answer)) takeRows
   pub status : Right (λ a. statusIn (runOf (a .0) (a .1) .word)) statusRows

@@ -29,17 +29,24 @@ pub struct Way {
 }
 
 /// The ways that are measured.
-pub const WAYS: &[Way] = &[Way {
-    name: "ask: directories of both levels, a whole-image lookup",
-    words: |_| vec!["ask".into()],
-    input: |image| {
-        format!(
-            "file image {}\ndirectory image 1\ndirectory image 2\nfind-image image {} 0\n",
-            image.display(),
-            samples::MISSING
-        )
+pub const WAYS: &[Way] = &[
+    Way {
+        name: "ask: directories of both levels, a whole-image lookup",
+        words: |_| vec!["ask".into()],
+        input: |image| {
+            format!(
+                "file image {}\ndirectory image 1\ndirectory image 2\nfind-image image {} 0\n",
+                image.display(),
+                samples::MISSING
+            )
+        },
     },
-}];
+    Way {
+        name: "register: all that it shows of an image",
+        words: |image| vec!["register".into(), image.display().to_string()],
+        input: |_| String::new(),
+    },
+];
 
 /// What the tool's memory comes to on one way.
 pub struct Peaks {
@@ -99,7 +106,9 @@ fn peak_of(way: &Way, image: &Path) -> Result<u64, String> {
     let process = child.id() as i32;
     // SAFETY: the call writes the status and the usage, whose form is that of the C library on x86-64.
     let waited = unsafe { wait4(process, &mut status, 0, &mut usage) };
-    if waited != process || status != 0 {
+    // By itself with 0, or with 1, since the image of a register has no boot loader.
+    let ended = status == 0 || status == 1 << 8;
+    if waited != process || !ended {
         return Err(format!(
             "the tool ended with {status} on {}, so its memory says nothing",
             image.display()
