@@ -4,7 +4,7 @@
 
 # Prints the table: for each row what one piece of work takes in each program.
 count_instructions() { # BENCH
-    local counter=${emulator:-qemu-x86_64} one_by_one=-singlestep name n what library second plain
+    local bench=$1 counter=${emulator:-qemu-x86_64} one_by_one=-singlestep name n what library second plain
     if ! works "$counter"; then
         say "instructions are counted by $counter, which is not there. Install Debian's package qemu-user, and start again."
         return 1
@@ -18,7 +18,7 @@ count_instructions() { # BENCH
         library=$(instructions_of 0) second=$(instructions_of 1) plain=$(instructions_of 2)
         awk -v what="$what" -v n="$n" -v library="$library" -v second="$second" -v plain="$plain" 'BEGIN {
             printf "| %s | %d | %d | %d | %d | %.2f | %.2f |\n", what, n, library, second, plain, library / plain, library / second }'
-    done < <($emulator "$1" --list)
+    done < <($emulator "$bench" --list)
 }
 
 # The instructions of one piece of work: three of them, less one, halved. So what comes before and after is not counted.

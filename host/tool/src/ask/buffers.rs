@@ -104,7 +104,11 @@ fn file(state: &mut State, words: &[&[u8]]) -> Result<String, BadLine> {
     let mut bytes = Vec::new();
     open(OsStr::from_bytes(words[1]))
         .and_then(Opened::no_pipe)
-        .and_then(|file| file.take(MOST_BYTES + 1).read_to_end(&mut bytes))
+        .and_then(|file| {
+            // Room for the whole file at once, so that no more memory than that is ever touched.
+            bytes.reserve_exact(file.length().min(MOST_BYTES) as usize + 1);
+            file.take(MOST_BYTES + 1).read_to_end(&mut bytes)
+        })
         .map_err(|error| {
             BadLine::new(format!(
                 "the file {} cannot be read ({error}); a path has no space, and starts in the \
