@@ -2,7 +2,6 @@
 ghost use mathlib.Core.Path.{_≡_};
 ghost use Rattle.lent.specs.Lent.{numberLeft, wordsLeft, layNumber};
 ghost use Rattle.version.specs.Version.{versionOf};
-use version::Versioned;
 
 // One word: the version.
 #[no_mangle]
@@ -10,11 +9,5 @@ pub extern "C" fn kpalumere_version(bytes: &[u8], words: &mut [u64]) -> u64
     ensures { λ r. ⌜ r ≡ numberLeft layNumber (versionOf (now (bytes .entry))) (now (words .entry)) ⌝ }
     ensures { λ _. ⌜ now (words .exit) ≡ wordsLeft layNumber (versionOf (now (bytes .entry))) (now (words .entry)) ⌝ }
 {
-    match version::version(bytes) {
-        Versioned::Given(version) => {
-            let values = [version as u64];
-            lent::put(words, 0, &values)
-        }
-        Versioned::Refused(why) => why.number as u64,
-    }
+    image_words::version(bytes, words)
 }

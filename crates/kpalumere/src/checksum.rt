@@ -10,7 +10,5 @@ pub extern "C" fn kpalumere_checksum(bytes: &[u8], words: &mut [u64]) -> u64
     ensures { λ r. ⌜ r ≡ numberLeft layNumber (given (fletcherOf (now (bytes .entry)))) (now (words .entry)) ⌝ }
     ensures { λ _. ⌜ now (words .exit) ≡ wordsLeft layNumber (given (fletcherOf (now (bytes .entry)))) (now (words .entry)) ⌝ }
 {
-    let sum = fletcher::fletcher(bytes);
-    let values = [sum as u64];
-    lent::put(words, 0, &values)
+    image_words::checksum(bytes, words)
 }

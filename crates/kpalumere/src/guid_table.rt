@@ -1,16 +1,10 @@
 // The GUID table at the end of a guest firmware image. A GUID is given by its two halves: its sixteen bytes in memory are those of
 // `low`, then those of `high`, lowest first.
 ghost use mathlib.Core.Path.{_≡_};
-ghost use mathlib.Core.List.{[]};
 ghost use Rattle.lent.specs.Lent.{numberOf, numberLeft, wordsLeft, bytesLeft, layNumber};
 ghost use Rattle.guids.specs.Table.{tableOf, findOf, entryOf};
 ghost use Rattle.guids.specs.Write.{startOf, startedBy, extendOf, extendedBy};
-ghost use Rattle.kpalumere.specs.GuidTable.{layTotals, layGuidMatch, layGuidEntry, guidOf};
-use guids::Checked;
-use guids::Guid;
-use guids::Lookup;
-use guids::Read;
-use guids::Total;
+ghost use Rattle.guid_words.specs.GuidTable.{layTotals, layGuidMatch, layGuidEntry, guidOf};
 
 // Two words: the table's total, and the number of its entries.
 #[no_mangle]
@@ -18,13 +12,7 @@ pub extern "C" fn kpalumere_guids(image: &[u8], words: &mut [u64]) -> u64
     ensures { λ r. ⌜ r ≡ numberLeft layTotals (tableOf (now (image .entry))) (now (words .entry)) ⌝ }
     ensures { λ _. ⌜ now (words .exit) ≡ wordsLeft layTotals (tableOf (now (image .entry))) (now (words .entry)) ⌝ }
 {
-    match guids::table(image) {
-        Checked::Given(t) => {
-            let values = [t.total as u64, t.entries as u64];
-            lent::put(words, 0, &values)
-        }
-        Checked::Refused(why) => why.number as u64,
-    }
+    guid_words::table(image, words)
 }
 
 // Three words: the data's place and length, and the number of entries tested. 8 carries that number: one word.
@@ -33,23 +21,7 @@ pub extern "C" fn kpalumere_guid_find(image: &[u8], low: u64, high: u64, words: 
     ensures { λ r. ⌜ r ≡ numberLeft layGuidMatch (findOf (now (image .entry)) (guidOf low high)) (now (words .entry)) ⌝ }
     ensures { λ _. ⌜ now (words .exit) ≡ wordsLeft layGuidMatch (findOf (now (image .entry)) (guidOf low high)) (now (words .entry)) ⌝ }
 {
-    match guids::find(
-        image,
-        Guid {
-            low: low,
-            high: high,
-        },
-    ) {
-        Lookup::Given(m) => {
-            let values = [m.place as u64, m.length as u64, m.tested as u64];
-            lent::put(words, 0, &values)
-        }
-        Lookup::Absent(tested) => {
-            let values = [tested as u64];
-            lent::put(words, 8, &values)
-        }
-        Lookup::Refused(why) => why.number as u64,
-    }
+    guid_words::find(image, low, high, words)
 }
 
 // Four words: the GUID's halves, and the data's place and length, of the entry at position i counted from the footer.
@@ -58,14 +30,7 @@ pub extern "C" fn kpalumere_guid_entry(image: &[u8], i: usize, words: &mut [u64]
     ensures { λ r. ⌜ r ≡ numberLeft layGuidEntry (entryOf (now (image .entry)) i) (now (words .entry)) ⌝ }
     ensures { λ _. ⌜ now (words .exit) ≡ wordsLeft layGuidEntry (entryOf (now (image .entry)) i) (now (words .entry)) ⌝ }
 {
-    match guids::entry_at(image, i) {
-        Read::Given(e) => {
-            let guid = e.guid;
-            let values = [guid.low, guid.high, e.place as u64, e.length as u64];
-            lent::put(words, 0, &values)
-        }
-        Read::Refused(why) => why.number as u64,
-    }
+    guid_words::entry(image, i, words)
 }
 
 // Starts a table with no entries.
@@ -74,20 +39,7 @@ pub extern "C" fn kpalumere_guid_start(buf: &mut [u8]) -> u64
     ensures { λ r. ⌜ r ≡ numberOf (startOf (now (buf .entry))) ⌝ }
     ensures { λ _. ⌜ now (buf .exit) ≡ startedBy (now (buf .entry)) (startOf (now (buf .entry))) ⌝ }
 {
-    match guids::start(buf) {
-        Total::Given(_) => 0,
-        Total::Refused(why) => why.number as u64,
-    }
-}
-
-// The number of an extend that has no word to write the new total into: nothing is written.
-fn extend_without_words(buf: &[u8], bytes: &[u8]) -> u64
-    ensures { λ r. ⌜ r ≡ numberLeft layNumber (extendOf (now (buf .entry)) (now (bytes .entry))) [] ⌝ }
-{
-    match guids::admit(buf, bytes) {
-        Total::Given(_) => 12,
-        Total::Refused(why) => why.number as u64,
-    }
+    guid_words::start(buf)
 }
 
 // Extends the table by an entry, farthest from the footer. One word: the new total; where there is no word, no byte is written either.
@@ -103,21 +55,5 @@ pub extern "C" fn kpalumere_guid_extend(
     ensures { λ _. ⌜ now (words .exit) ≡ wordsLeft layNumber (extendOf (now (buf .entry)) (now (bytes .entry))) (now (words .entry)) ⌝ }
     ensures { λ _. ⌜ now (buf .exit) ≡ bytesLeft layNumber (extendOf (now (buf .entry)) (now (bytes .entry))) (extendedBy (now (buf .entry)) (guidOf low high) (now (bytes .entry))) (now (buf .entry)) (now (words .entry)) ⌝ }
 {
-    if words.len() < 1 {
-        return extend_without_words(buf, bytes);
-    }
-    match guids::extend(
-        buf,
-        Guid {
-            low: low,
-            high: high,
-        },
-        bytes,
-    ) {
-        Total::Given(total) => {
-            let values = [total as u64];
-            lent::put(words, 0, &values)
-        }
-        Total::Refused(why) => why.number as u64,
-    }
+    guid_words::extend(buf, low, high, bytes, words)
 }

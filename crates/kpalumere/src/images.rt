@@ -3,14 +3,7 @@ ghost use mathlib.Core.Path.{_≡_};
 ghost use Rattle.lent.specs.Lent.{numberLeft, wordsLeft};
 ghost use Rattle.flash.specs.Flash.{base, flashEfs, flashPointer, flashDirectory, flashEntry, flashPart, flashFind};
 ghost use Rattle.walk.specs.Walk.{findImage};
-ghost use Rattle.kpalumere.specs.Images.{layEfs, layPointer, layDirectory, layEntry, layPart, layMatch, layFound};
-use directory::Checked;
-use directory::Lookup;
-use directory::Placed;
-use directory::Read;
-use flash::Located;
-use flash::Pointed;
-use walk::Walked;
+ghost use Rattle.image_words.specs.Images.{layEfs, layPointer, layDirectory, layEntry, layPart, layMatch, layFound};
 
 // Three words: the EFS's place, and its pointers at 0x10 and at 0x14 as they stand.
 #[no_mangle]
@@ -18,14 +11,7 @@ pub extern "C" fn kpalumere_efs(image: &[u8], words: &mut [u64]) -> u64
     ensures { λ r. ⌜ r ≡ numberLeft layEfs (flashEfs base (now (image .entry))) (now (words .entry)) ⌝ }
     ensures { λ _. ⌜ now (words .exit) ≡ wordsLeft layEfs (flashEfs base (now (image .entry))) (now (words .entry)) ⌝ }
 {
-    match flash::efs_in(image) {
-        Located::Given(e) => {
-            let place = e.place;
-            let values = [place.0 as u64, e.early as u64, e.late as u64];
-            lent::put(words, 0, &values)
-        }
-        Located::Refused(why) => why.number as u64,
-    }
+    image_words::efs(image, words)
 }
 
 // Three words: the field of the EFS that holds the directory pointer, its value, and the place where it leads.
@@ -34,14 +20,7 @@ pub extern "C" fn kpalumere_pointer(image: &[u8], words: &mut [u64]) -> u64
     ensures { λ r. ⌜ r ≡ numberLeft layPointer (flashPointer base (now (image .entry))) (now (words .entry)) ⌝ }
     ensures { λ _. ⌜ now (words .exit) ≡ wordsLeft layPointer (flashPointer base (now (image .entry))) (now (words .entry)) ⌝ }
 {
-    match flash::pointer_in(image) {
-        Pointed::Given(p) => {
-            let place = p.place;
-            let values = [p.field as u64, p.value as u64, place.0 as u64];
-            lent::put(words, 0, &values)
-        }
-        Pointed::Refused(why) => why.number as u64,
-    }
+    image_words::pointer(image, words)
 }
 
 // Three words: the directory's place, level and total.
@@ -50,14 +29,7 @@ pub extern "C" fn kpalumere_directory(image: &[u8], level: u32, words: &mut [u64
     ensures { λ r. ⌜ r ≡ numberLeft layDirectory (flashDirectory base level (now (image .entry))) (now (words .entry)) ⌝ }
     ensures { λ _. ⌜ now (words .exit) ≡ wordsLeft layDirectory (flashDirectory base level (now (image .entry))) (now (words .entry)) ⌝ }
 {
-    match flash::directory(image, level) {
-        Checked::Given(d) => {
-            let place = d.place;
-            let values = [place.0 as u64, d.level as u64, d.total as u64];
-            lent::put(words, 0, &values)
-        }
-        Checked::Refused(why) => why.number as u64,
-    }
+    image_words::directory(image, level, words)
 }
 
 // Five words: the entry's type, subprogram, size, location and mode.
@@ -66,19 +38,7 @@ pub extern "C" fn kpalumere_entry(image: &[u8], level: u32, index: u64, words: &
     ensures { λ r. ⌜ r ≡ numberLeft layEntry (flashEntry base level (now (image .entry)) index) (now (words .entry)) ⌝ }
     ensures { λ _. ⌜ now (words .exit) ≡ wordsLeft layEntry (flashEntry base level (now (image .entry)) index) (now (words .entry)) ⌝ }
 {
-    match flash::entry(image, level, index as usize) {
-        Read::Given(e) => {
-            let values = [
-                e.class as u64,
-                e.subprogram as u64,
-                e.size as u64,
-                e.location,
-                e.mode as u64,
-            ];
-            lent::put(words, 0, &values)
-        }
-        Read::Refused(why) => why.number as u64,
-    }
+    image_words::entry(image, level, index, words)
 }
 
 // Two words: where the entry's bytes begin in the image, and how many they are.
@@ -87,13 +47,7 @@ pub extern "C" fn kpalumere_part(image: &[u8], level: u32, index: u64, words: &m
     ensures { λ r. ⌜ r ≡ numberLeft layPart (flashPart base level (now (image .entry)) index) (now (words .entry)) ⌝ }
     ensures { λ _. ⌜ now (words .exit) ≡ wordsLeft layPart (flashPart base level (now (image .entry)) index) (now (words .entry)) ⌝ }
 {
-    match flash::part(image, level, index as usize) {
-        Placed::Given(p) => {
-            let values = [p.place as u64, p.length as u64];
-            lent::put(words, 0, &values)
-        }
-        Placed::Refused(why) => why.number as u64,
-    }
+    image_words::part(image, level, index, words)
 }
 
 // Two words: the match's index, and how many entries were tested; with an 8 one word, how many were tested.
@@ -108,17 +62,7 @@ pub extern "C" fn kpalumere_find(
     ensures { λ r. ⌜ r ≡ numberLeft layMatch (flashFind base level (now (image .entry)) class sub) (now (words .entry)) ⌝ }
     ensures { λ _. ⌜ now (words .exit) ≡ wordsLeft layMatch (flashFind base level (now (image .entry)) class sub) (now (words .entry)) ⌝ }
 {
-    match flash::find(image, level, class, sub) {
-        Lookup::Given(m) => {
-            let values = [m.index as u64, m.tested as u64];
-            lent::put(words, 0, &values)
-        }
-        Lookup::Absent(n) => {
-            let values = [n as u64];
-            lent::put(words, 8, &values)
-        }
-        Lookup::Refused(why) => why.number as u64,
-    }
+    image_words::find(image, level, class, sub, words)
 }
 
 // Four words: the place and level of the match's directory, its index, and how many entries were tested; with an 8 one word, how many were tested.
@@ -127,21 +71,5 @@ pub extern "C" fn kpalumere_find_image(image: &[u8], class: u8, sub: u8, words: 
     ensures { λ r. ⌜ r ≡ numberLeft layFound (findImage base (now (image .entry)) class sub) (now (words .entry)) ⌝ }
     ensures { λ _. ⌜ now (words .exit) ≡ wordsLeft layFound (findImage base (now (image .entry)) class sub) (now (words .entry)) ⌝ }
 {
-    match walk::find_image(image, class, sub) {
-        Walked::Given(f) => {
-            let place = f.place;
-            let values = [
-                place.0 as u64,
-                f.level as u64,
-                f.index as u64,
-                f.tested as u64,
-            ];
-            lent::put(words, 0, &values)
-        }
-        Walked::Absent(n) => {
-            let values = [n as u64];
-            lent::put(words, 8, &values)
-        }
-        Walked::Refused(why) => why.number as u64,
-    }
+    image_words::find_image(image, class, sub, words)
 }

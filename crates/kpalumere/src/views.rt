@@ -3,10 +3,7 @@ ghost use mathlib.Core.Path.{_≡_};
 ghost use Rattle.lent.specs.Lent.{numberLeft, wordsLeft};
 ghost use Rattle.flash.specs.Flash.{base, flashDirectory};
 ghost use Rattle.place.specs.Place.{entryAt, partAt};
-ghost use Rattle.kpalumere.specs.Images.{layEntry, layPart, layPlace};
-use directory::Checked;
-use directory::Placed;
-use directory::Read;
+ghost use Rattle.image_words.specs.Images.{layEntry, layPart, layPlace};
 
 // One word: the place that a view of the directory of a level keeps.
 #[no_mangle]
@@ -14,13 +11,7 @@ pub extern "C" fn kpalumere_view(image: &[u8], level: u32, words: &mut [u64]) ->
     ensures { λ r. ⌜ r ≡ numberLeft layPlace (flashDirectory base level (now (image .entry))) (now (words .entry)) ⌝ }
     ensures { λ _. ⌜ now (words .exit) ≡ wordsLeft layPlace (flashDirectory base level (now (image .entry))) (now (words .entry)) ⌝ }
 {
-    match flash::directory(image, level) {
-        Checked::Given(d) => {
-            let values = [d.place.0 as u64];
-            lent::put(words, 0, &values)
-        }
-        Checked::Refused(why) => why.number as u64,
-    }
+    view_words::view(image, level, words)
 }
 
 // Five words: type, subprogram, size, location and mode of entry i, from a view that holds the image and the place.
@@ -34,19 +25,7 @@ pub extern "C" fn kpalumere_view_entry(
     ensures { λ r. ⌜ r ≡ numberLeft layEntry (entryAt base (now (image .entry)) place i) (now (words .entry)) ⌝ }
     ensures { λ _. ⌜ now (words .exit) ≡ wordsLeft layEntry (entryAt base (now (image .entry)) place i) (now (words .entry)) ⌝ }
 {
-    match view::entry_from(image, place, i) {
-        Read::Given(e) => {
-            let values = [
-                e.class as u64,
-                e.subprogram as u64,
-                e.size as u64,
-                e.location,
-                e.mode as u64,
-            ];
-            lent::put(words, 0, &values)
-        }
-        Read::Refused(why) => why.number as u64,
-    }
+    view_words::entry(image, place, i, words)
 }
 
 // Two words: where the bytes of entry i begin in the image, and how many they are, from a view that holds the image and the place.
@@ -60,11 +39,5 @@ pub extern "C" fn kpalumere_view_part(
     ensures { λ r. ⌜ r ≡ numberLeft layPart (partAt base (now (image .entry)) place i) (now (words .entry)) ⌝ }
     ensures { λ _. ⌜ now (words .exit) ≡ wordsLeft layPart (partAt base (now (image .entry)) place i) (now (words .entry)) ⌝ }
 {
-    match view::part_from(image, place, i) {
-        Placed::Given(p) => {
-            let values = [p.place as u64, p.length as u64];
-            lent::put(words, 0, &values)
-        }
-        Placed::Refused(why) => why.number as u64,
-    }
+    view_words::part(image, place, i, words)
 }

@@ -1,4 +1,0 @@
-pub mod AsptTable
-pub mod GuidTable
-pub mod Images
-pub mod Writing

@@ -1,0 +1,55 @@
+use mathlib.Core.Path.{sym, ap, _∙_}
+use Rattle.lent.proofs.Laws.{given-number, given-words, alone-number, alone-words}
+use Rattle.directory.specs.Part.{toldPart}
+use Rattle.image_words.specs.Images.{layPart}
+use borrow.Author.Needs.{needs}
+use Rattle.view_words.proofs.part.Statement.{statement}
+use Rattle.view_words.proofs.part.Tie as tie
+
+part-from-requires : tie.Need-part-from-requires
+part-from-requires c κs = search needs
+
+enum-known-p : tie.Need-enum-known-p
+enum-known-p c = search needs
+
+slice-aggregate-put : tie.Need-slice-aggregate-put
+slice-aggregate-put c = search needs
+
+put-requires : tie.Need-put-requires
+put-requires c κs = search needs
+
+enum-known-why : tie.Need-enum-known-why
+enum-known-why c = search needs
+
+cast-result : tie.Need-cast-result
+cast-result c = search needs
+
+same-length : tie.Need-same-length
+same-length c = search needs
+
+returns : tie.Need-returns
+returns c =
+    let p = c .before .before .put .ensures in
+    let m = c .before .before .before .before .before .before in
+    let gives = sym (m .before .before .part-from .ensures) ∙ ap toldPart (m .p .given .1) in
+    (given-number layPart _ _ (m .p .given .0 .0) _ gives (p .0), given-words layPart _ _ (m .p .given .0 .0) _ gives (p .1))
+
+returns-2 : tie.Need-returns-2
+returns-2 c =
+    let m = c .before .before in
+    let refuses = sym (m .before .before .part-from .ensures) ∙ ap toldPart (m .why .given .1) in
+    (alone-number layPart _ _ _ refuses, alone-words layPart _ _ _ refuses)
+
+pub part-spec : {M : Type 1} → statement M
+part-spec =
+    tie.close
+    (tie.spec
+    part-from-requires
+    enum-known-p
+    slice-aggregate-put
+    put-requires
+    enum-known-why
+    cast-result
+    same-length
+    returns
+    returns-2)
