@@ -1,7 +1,8 @@
 //! The plain reading in C beside the library and the second program, on random and on damaged inputs. A comparison of times is
 //! worth something only where all three give the same answers.
 //!
-//! The inputs follow from a seed, which is printed; the variable KPALUMERE_SEED sets it.
+//! The inputs follow from a seed, which is printed; the variable KPALUMERE_SEED sets another. Where it is not set the seed is
+//! always the same, since a test also holds which numbers it meets, and a rare one may be missed by a seed from the clock.
 
 use agree::random::Random;
 use bench::programs::{list_by_calls, Library, MailboxCalls, Plain, Program, Second};
@@ -9,7 +10,6 @@ use bench::samples;
 use bindings::{Answer, AsptStructure, AsptTable, Guid, NewEntry, Place, Post, Register};
 use std::collections::BTreeSet;
 use std::fmt::Debug;
-use std::time::{SystemTime, UNIX_EPOCH};
 
 /// A test's random numbers, and the numbers of the refusals that it has met.
 struct Trial {
@@ -21,10 +21,9 @@ struct Trial {
 impl Trial {
     /// Prints the seed, which cargo shows where the test fails.
     fn begin() -> Trial {
-        let clock = SystemTime::now().duration_since(UNIX_EPOCH);
         let seed = match std::env::var("KPALUMERE_SEED") {
             Ok(word) => word.parse().expect("KPALUMERE_SEED is a number"),
-            Err(_) => clock.map_or(0, |since| since.as_micros() as u64),
+            Err(_) => 1,
         };
         println!("seed {seed}; KPALUMERE_SEED={seed} tries the same inputs again");
         Trial {
