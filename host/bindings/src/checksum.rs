@@ -78,12 +78,29 @@ mod tests {
     }
 
     #[test]
-    fn the_largest_directory_is_as_the_paper_says() {
-        for length in [2, 4, 30, 718, 720, 8 + 16 * 512] {
+    fn words_on_both_sides_of_each_fold_are_as_the_paper_says() {
+        // Every remainder of four words, both sides of 359 and 718 words, and the largest directory.
+        let words = (0..=9)
+            .chain(350..=370)
+            .chain(710..=726)
+            .chain([4 + 8 * 512]);
+        for length in words.map(|words| 2 * words) {
             let bytes = mixed_bytes(length);
             assert_eq!(checksum(&bytes), Ok(by_the_paper(&bytes)), "{length} bytes");
             let full = vec![0xFF; length];
             assert_eq!(checksum(&full), Ok(by_the_paper(&full)), "{length} of 0xFF");
+        }
+    }
+
+    #[test]
+    fn the_steepest_words_do_not_pass_32_bits() {
+        // Both sums are 65,534 after `run` words, from where words of 0xFFFF let them grow fastest.
+        for run in 352..=364 {
+            let mut bytes = vec![0; 2 * run];
+            bytes[2 * run - 2] = 0xFE;
+            bytes[2 * run - 1] = 0xFF;
+            bytes.resize(2 * run + 2 * 2000, 0xFF);
+            assert_eq!(checksum(&bytes), Ok(by_the_paper(&bytes)), "{run} words");
         }
     }
 

@@ -36,9 +36,11 @@ fn script(random: &mut Random, calls: u64) -> Script {
 
 /// A buffer with a directory in it, started or given; mostly a good one.
 fn prepare(random: &mut Random, draft: &mut Draft) {
-    let entries = match random.below(6) {
+    let entries = match random.below(7) {
         0 => 508 + random.below(6),
         1 => random.below(40),
+        // Extends that pass 359 and 718 words, where the checksum is folded.
+        2 => random.one_of(&[43, 44, 45, 88, 89, 90]),
         _ => random.below(5),
     };
     let room = match random.below(10) {
