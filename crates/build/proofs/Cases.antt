@@ -17,8 +17,8 @@ use Rattle.directory.specs.Directory.{pspKind, cookieOf, placedIn}
 use Rattle.directory.specs.declared.Kind.{Kind}
 use Rattle.directory.specs.declared.Directory.{Directory}
 use Rattle.build.specs.declared.Fields.{Fields}
-use Rattle.build.specs.Write.{entryBytes, entriesBytes, directoryBytes, startOf, startedBy, roomFor, lengthened, extendedBy}
-use Rattle.build.proofs.Places.{entryNumbers, headNumbers, entry-numbers, length-entryBytes}
+use Rattle.build.specs.Write.{entryBytes, entriesBytes, directoryBytes, startOf, startedBy, roomFor}
+use Rattle.build.proofs.Places.{entryNumbers, headNumbers, entry-numbers}
 
 module _ (level : ℕ) (s : List ℕ) where
   pub start-below : level < 1 → refused 9 alone ≡ startOf level s
@@ -91,7 +91,7 @@ entry-put f s t u v w x h e1 e2 e3 e4 e5 =
     cc
 
 -- a part to the buffer's end, lent to a writer at its start, is the buffer written in its middle
-part-put : (vs s ys : List ℕ) (at : ℕ) → at + length vs ≤ length s → ys ≡ putBytes vs (take (length s - at) (drop at s)) 0 →
+pub part-put : (vs s ys : List ℕ) (at : ℕ) → at + length vs ≤ length s → ys ≡ putBytes vs (take (length s - at) (drop at s)) 0 →
     take at s ++ (ys ++ drop (length s - at) (drop at s)) ≡ putBytes vs s at
 part-put vs s ys at h e =
     let l : length (drop at s) ≡ length s - at = length-drop at s in
@@ -101,16 +101,3 @@ part-put vs s ys at h e =
     e ∙ ap (λ (x : List ℕ). putBytes vs x 0) all ∙ put-some vs (drop at s) 0 (omega arith)
     ∙ ap (λ (k : ℕ). vs ++ drop k (drop at s)) (zero-add (length vs)) ∙ ap (λ (x : List ℕ). vs ++ x) (drop-drop (length vs) at s) in
     rw (behind, append-nil, put) (sym (append-assoc (take at s) vs (drop (at + length vs) s)) ∙ sym (put-some vs s at h))
-
--- an entry through a part, the total, and the checksum
-pub append-put : (f : Fields) (s ys t u : List ℕ) (total at sum : ℕ) → 1 ≤ total → 16 + total * 16 ≤ length s → at ≡ 16 + (total - 1) * 16 →
-    ys ≡ putBytes (entryBytes f) (take (length s - at) (drop at s)) 0 →
-    t ≡ putAt 4 total (take at s ++ (ys ++ drop (length s - at) (drop at s))) 8 →
-    sum ≡ fletcherOf (take (at + 16 - 8) (drop 8 t)) → u ≡ putAt 4 sum t 4 → u ≡ extendedBy f s (given total)
-append-put f s ys t u total at sum one room place entry number checksum field =
-    let part : take at s ++ (ys ++ drop (length s - at) (drop at s)) ≡ putBytes (entryBytes f) s (16 + (total - 1) * 16) =
-    part-put (entryBytes f) s ys at (omega (arith, length-entryBytes f)) entry ∙ ap (putBytes (entryBytes f) s) place in
-    let whole : t ≡ lengthened f s total = number ∙ ap (λ (x : List ℕ). putAt 4 total x 8) part in
-    let long : at + 16 - 8 ≡ 8 + total * 16 = omega arith in
-    field ∙ ap (λ (k : ℕ). putAt 4 k t 4) (checksum ∙ ap (λ (k : ℕ). fletcherOf (take k (drop 8 t))) long)
-    ∙ ap (λ (x : List ℕ). putAt 4 (fletcherOf (take (8 + total * 16) (drop 8 x))) x 4) whole

@@ -1,9 +1,10 @@
 // A directory started at a buffer's start, and extended there by one entry.
 ghost use mathlib.Core.Path.{_≡_};
-ghost use Prim.Native.Nat.{_+_, _*_, _<_, _≤_, _^_};
+ghost use Prim.Native.Nat.{_+_, _*_, _-_, _<_, _≤_, _^_};
 ghost use lib.ListN.{length};
 ghost use Rattle.reply.specs.Reply.{given};
-ghost use Rattle.le.specs.Le.{putBytes};
+ghost use Rattle.le.specs.Le.{leAt, putBytes};
+ghost use Rattle.directory.specs.Directory.{pspKind, totalAt, checksumAt};
 ghost use Rattle.build.specs.Write.{entryBytes, startOf, startedBy, roomFor, extendOf, extendedBy, toldTotal};
 use directory::Checked;
 use directory::Directory;
@@ -95,18 +96,22 @@ fn put_entry(part: &mut [u8], f: Fields)
     le::put64(part, 8, word);
 }
 
-// Writes the entry as the last of `total`, the total, and the new checksum.
+// Writes the entry as the last of `total`, the total, and the new checksum. That is made of the old one and the entry's own, with no second pass: the words
+// before the entry weigh eight more, and the first of them, the total, is one larger.
 fn append(buf: &mut [u8], f: Fields, total: u32)
     requires { ⌜ (f .location < 2 ^ 62) × (f .mode ≤ 3) ⌝ }
     requires { ⌜ (1 ≤ total) × (total ≤ 512) × (16 + total * 16 ≤ length (now buf)) ⌝ }
+    requires { ⌜ (totalAt (now buf) 0 ≡ total - 1) × (leAt 4 (now buf) 4 ≡ checksumAt pspKind (now buf) 0 (total - 1)) ⌝ }
     ensures { λ _. ⌜ now (buf .exit) ≡ extendedBy f (now (buf .entry)) (given total) ⌝ }
 {
     let at = 16 + (total as usize - 1) * 16;
+    let words = 4 + (total as u16 - 1) * 8;
+    let before = fletcher::raised(le::u32_at(buf, 4), words);
     put_entry(&mut buf[at..], f);
     le::put32(buf, 8, total);
     let end = at + 16;
-    let sum = fletcher::fletcher(&buf[8..end]);
-    le::put32(buf, 4, sum);
+    let entry = fletcher::fletcher(&buf[at..end]);
+    le::put32(buf, 4, fletcher::joined(before, 8, entry));
 }
 
 // Extends the directory at the buffer's start by one entry: the new total. Refused, every byte is kept.

@@ -1,5 +1,5 @@
 use borrow.Author.Needs.{needs}
-use Rattle.build.proofs.Cases.{append-put}
+use Rattle.build.proofs.Appended.{append-put}
 use Rattle.build.proofs.append.Statement.{statement}
 use Rattle.build.proofs.append.Tie as tie
 
@@ -11,6 +11,24 @@ mul-at c = search needs
 
 add-at : tie.Need-add-at
 add-at c = search needs
+
+cast-words : tie.Need-cast-words
+cast-words c = search needs
+
+sub-words : tie.Need-sub-words
+sub-words c = search needs
+
+mul-words : tie.Need-mul-words
+mul-words c = search needs
+
+add-words : tie.Need-add-words
+add-words c = search needs
+
+u32-at-requires : tie.Need-u32-at-requires
+u32-at-requires c κs = search needs
+
+raised-requires : tie.Need-raised-requires
+raised-requires c κs = search needs
 
 sub-put-entry : tie.Need-sub-put-entry
 sub-put-entry c = search needs
@@ -42,6 +60,9 @@ part-fletcher-end c = search needs
 fletcher-requires : tie.Need-fletcher-requires
 fletcher-requires c κs = search needs
 
+joined-requires : tie.Need-joined-requires
+joined-requires c κs = search needs
+
 put32-requires-2 : tie.Need-put32-requires-2
 put32-requires-2 c κs = search needs
 
@@ -58,6 +79,12 @@ append-spec =
     sub-at
     mul-at
     add-at
+    cast-words
+    sub-words
+    mul-words
+    add-words
+    u32-at-requires
+    raised-requires
     sub-put-entry
     part-put-entry-start
     part-put-entry-end
@@ -68,6 +95,7 @@ append-spec =
     part-fletcher-start
     part-fletcher-end
     fletcher-requires
+    joined-requires
     put32-requires-2
     same-length
     returns)

@@ -1,7 +1,9 @@
-use mathlib.Core.Path.{sym, ap, _∙_}
+use mathlib.Core.Path.{_≡_, sym, ap, _∙_}
+use Prim.Native.Nat.{_-_}
 use native.Mathlib.Omega.{arith}
 use borrow.Author.Needs.{needs}
 use denote.Ref.{now}
+use Rattle.directory.specs.Directory.{pspKind, checksumAt}
 use Rattle.build.specs.Write.{extendedBy, toldTotal}
 use Rattle.build.proofs.Accept.{extend-only}
 use Rattle.build.proofs.extend.Statement.{statement}
@@ -19,7 +21,8 @@ append-requires c κs =
     let n = c .before .before .total .given in
     let x = extend-only (a .f) (now (a .buf)) (n .0 .0) (sym (c .before .before .before .before .admit .ensures) ∙ ap toldTotal (n .1)) in
     let g = x .2 in
-    ((g .fits .location, g .fits .mode), (omega (arith, x .3), omega (arith, x .3, g .few), omega (arith, x .3, g .room)))
+    let last : x .1 ≡ n .0 .0 - 1 = omega (arith, x .3) in
+    ((g .fits .location, g .fits .mode), ((omega (arith, x .3), omega (arith, x .3, g .few), omega (arith, x .3, g .room)), (g .good .total ∙ last, g .good .checksum ∙ ap (checksumAt pspKind (now (a .buf)) 0) last)))
 
 enum-known-why : tie.Need-enum-known-why
 enum-known-why c = search needs
