@@ -213,6 +213,13 @@ pub fn entry_in(image: &[u8], kind: Kind, d: Directory, i: usize) -> Read
     }
 }
 
+// The type of entry i.
+pub fn class_of(image: &[u8], kind: Kind, at: Offset, i: u32) -> u8
+    ensures { λ r. ⌜ r ≡ getD (now (image .entry)) (entryPlace kind (at .0) i) 0 ⌝ }
+{
+    le::byte_at(image, entry_place(kind, at, i))
+}
+
 // The lowest entry of a directory that leads to level two.
 pub fn lead_in(image: &[u8], kind: Kind, d: Directory) -> Read
     ensures { λ r. ⌜ toldEntry r ≡ leadIn kind (now (image .entry)) d ⌝ }
@@ -220,9 +227,8 @@ pub fn lead_in(image: &[u8], kind: Kind, d: Directory) -> Read
     let n = d.total;
     let mut i: u32 = 0;
     while i < n {
-        let e = entry_of(image, kind, d.place, i);
-        if e.class == kind.lead {
-            return Read::Given(e);
+        if class_of(image, kind, d.place, i) == kind.lead {
+            return Read::Given(entry_of(image, kind, d.place, i));
         }
         i += 1;
     }
@@ -253,6 +259,18 @@ pub fn matches(e: Entry, class: u8, sub: u8) -> bool
     }
 }
 
+// Does entry i have this type and subprogram? Its first two bytes tell.
+pub fn entry_matches(image: &[u8], kind: Kind, at: Offset, i: u32, class: u8, sub: u8) -> bool
+    ensures { λ r. ⌜ r ≡ matchOf (fieldsAt (now (image .entry)) (entryPlace kind (at .0) i)) class sub ⌝ }
+{
+    let e = entry_place(kind, at, i);
+    if le::byte_at(image, e) == class {
+        le::byte_at(image, e + 1) == sub
+    } else {
+        false
+    }
+}
+
 // The lookup by type and subprogram in a directory.
 pub fn find_in(image: &[u8], kind: Kind, d: Directory, class: u8, sub: u8) -> Lookup
     ensures { λ r. ⌜ toldLookup r ≡ findIn kind (now (image .entry)) d class sub ⌝ }
@@ -260,7 +278,7 @@ pub fn find_in(image: &[u8], kind: Kind, d: Directory, class: u8, sub: u8) -> Lo
     let n = d.total;
     let mut i: u32 = 0;
     while i < n {
-        if matches(entry_of(image, kind, d.place, i), class, sub) {
+        if entry_matches(image, kind, d.place, i, class, sub) {
             return Lookup::Given(Match {
                 index: i,
                 tested: i + 1,

@@ -6,8 +6,7 @@ use borrow.Author.Needs.{needs}
 use denote.Ref.{now}
 use Rattle.reply.specs.Scan.{scan}
 use Rattle.reply.proofs.ScanLaws.{scan-start, scan-end, scan-stop, scan-pass}
-use Rattle.directory.specs.Entry.{findStep, findIn, nowhere, foundAt, matchOf}
-use Rattle.directory.specs.declared.Entry.{Entry}
+use Rattle.directory.specs.Entry.{findStep, findIn, nowhere, foundAt}
 use Rattle.directory.proofs.find_in.Statement.{statement}
 use Rattle.directory.proofs.find_in.Tie as tie
 
@@ -22,21 +21,18 @@ loop-holds c =
     let a = c .before .args in
     (omega arith, scan-start (findStep (a .kind) (now (a .image)) (a .d) (a .class) (a .sub)) nowhere (a .d .total))
 
-entry-of-requires : tie.Need-entry-of-requires Inv-loop μ-loop
-entry-of-requires c κs = search needs
+entry-matches-requires : tie.Need-entry-matches-requires Inv-loop μ-loop
+entry-matches-requires c κs = search needs
 
-matches-requires : tie.Need-matches-requires Inv-loop μ-loop
-matches-requires c κs = search needs
-
-add-t11 : tie.Need-add-t11 Inv-loop μ-loop
-add-t11 c = search needs
+add-t10 : tie.Need-add-t10 Inv-loop μ-loop
+add-t10 c = search needs
 
 returns : tie.Need-returns Inv-loop μ-loop
 returns c =
-    let l = c .before .before .before .before in
+    let l = c .before .before .before in
     let a = l .before .before .args in
     let i = l .loop .i in
-    let hit = sym (c .before .matches .ensures ∙ ap (λ (e : Entry). matchOf e (a .class) (a .sub)) (c .before .before .entry-of .ensures)) ∙ c .if1 .taken in
+    let hit = sym (c .before .entry-matches .ensures) ∙ c .if1 .taken in
     sym (scan-stop (findStep (a .kind) (now (a .image)) (a .d) (a .class) (a .sub)) nowhere (a .d .total) i (foundAt i) (omega arith) (λ rest. ap (λ (b : Bool). cond b (foundAt i) rest) hit)) ∙ l .loop .inv .1
 
 add-i : tie.Need-add-i Inv-loop μ-loop
@@ -47,10 +43,10 @@ loop-less c = search needs
 
 loop-again : tie.Need-loop-again Inv-loop μ-loop
 loop-again c =
-    let l = c .before .before .before .before in
+    let l = c .before .before .before in
     let a = l .before .before .args in
     let i = l .loop .i in
-    let miss = sym (c .before .matches .ensures ∙ ap (λ (e : Entry). matchOf e (a .class) (a .sub)) (c .before .before .entry-of .ensures)) ∙ c .if1 .left in
+    let miss = sym (c .before .entry-matches .ensures) ∙ c .if1 .left in
     (omega arith, sym (scan-pass (findStep (a .kind) (now (a .image)) (a .d) (a .class) (a .sub)) nowhere (a .d .total) i (omega arith) (λ rest. ap (λ (b : Bool). cond b (foundAt i) rest) miss)) ∙ l .loop .inv .1)
 
 returns-2 : tie.Need-returns-2 Inv-loop μ-loop
@@ -67,9 +63,8 @@ find-in-spec =
     Inv-loop
     μ-loop
     loop-holds
-    entry-of-requires
-    matches-requires
-    add-t11
+    entry-matches-requires
+    add-t10
     returns
     add-i
     loop-less

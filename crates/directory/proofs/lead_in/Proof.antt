@@ -9,7 +9,6 @@ use Rattle.reply.specs.Reply.{given, refused, alone}
 use Rattle.reply.specs.Scan.{scan}
 use Rattle.reply.proofs.ScanLaws.{scan-start, scan-end, scan-stop, scan-pass}
 use Rattle.directory.specs.Entry.{entryOf, leadStep, leadIn}
-use Rattle.directory.specs.declared.Entry.{Entry}
 use Rattle.directory.proofs.lead_in.Statement.{statement}
 use Rattle.directory.proofs.lead_in.Tie as tie
 
@@ -24,6 +23,9 @@ loop-holds c =
     let a = c .before .args in
     (omega arith, scan-start (leadStep (a .kind) (now (a .image)) (a .d)) (λ _. refused 8 alone) (a .d .total))
 
+class-of-requires : tie.Need-class-of-requires Inv-loop μ-loop
+class-of-requires c κs = search needs
+
 entry-of-requires : tie.Need-entry-of-requires Inv-loop μ-loop
 entry-of-requires c κs = search needs
 
@@ -32,9 +34,8 @@ returns c =
     let l = c .before .before .before .before .before in
     let a = l .before .before .args in
     let i = l .loop .i in
-    let e = c .before .before .before .entry-of in
-    let hit = eq-eqb (entryOf (a .kind) (now (a .image)) (a .d) i .class) (a .kind .lead) (sym (ap (λ (x : Entry). x .class) (e .ensures)) ∙ c .if1 .taken) in
-    sym (scan-stop (leadStep (a .kind) (now (a .image)) (a .d)) (λ _. refused 8 alone) (a .d .total) i (given (e .result)) (omega arith) (λ rest. ap (λ (b : Bool). cond b (given (entryOf (a .kind) (now (a .image)) (a .d) i)) rest) hit ∙ ap given (sym (e .ensures)))) ∙ l .loop .inv .1
+    let hit = eq-eqb (entryOf (a .kind) (now (a .image)) (a .d) i .class) (a .kind .lead) (sym (c .before .before .before .class-of .ensures) ∙ c .before .if1 .taken) in
+    sym (scan-stop (leadStep (a .kind) (now (a .image)) (a .d)) (λ _. refused 8 alone) (a .d .total) i (given (c .entry-of .result)) (omega arith) (λ rest. ap (λ (b : Bool). cond b (given (entryOf (a .kind) (now (a .image)) (a .d) i)) rest) hit ∙ ap given (sym (c .entry-of .ensures)))) ∙ l .loop .inv .1
 
 add-i : tie.Need-add-i Inv-loop μ-loop
 add-i c = search needs
@@ -44,11 +45,10 @@ loop-less c = search needs
 
 loop-again : tie.Need-loop-again Inv-loop μ-loop
 loop-again c =
-    let l = c .before .before .before .before .before in
+    let l = c .before .before .before .before in
     let a = l .before .before .args in
     let i = l .loop .i in
-    let e = c .before .before .before .entry-of in
-    let miss = ne-eqb (entryOf (a .kind) (now (a .image)) (a .d) i .class) (a .kind .lead) (λ q. c .if1 .left (ap (λ (x : Entry). x .class) (e .ensures) ∙ q)) in
+    let miss = ne-eqb (entryOf (a .kind) (now (a .image)) (a .d) i .class) (a .kind .lead) (λ q. c .if1 .left (c .before .before .class-of .ensures ∙ q)) in
     (omega arith, sym (scan-pass (leadStep (a .kind) (now (a .image)) (a .d)) (λ _. refused 8 alone) (a .d .total) i (omega arith) (λ rest. ap (λ (b : Bool). cond b (given (entryOf (a .kind) (now (a .image)) (a .d) i)) rest) miss)) ∙ l .loop .inv .1)
 
 returns-2 : tie.Need-returns-2 Inv-loop μ-loop
@@ -64,6 +64,7 @@ lead-in-spec =
     Inv-loop
     μ-loop
     loop-holds
+    class-of-requires
     entry-of-requires
     returns
     add-i
