@@ -19,7 +19,7 @@ use Rattle.directory.specs.declared.Entry.{Entry}
 use Rattle.directory.proofs.Accept.{acceptance, all-entry}
 use Rattle.flash.specs.Flash.{levelTwoAt}
 use Rattle.walk.specs.Walk.{Step, enter, test, fault, entriesFrom, walkedBy, belowOf, walkFrom, walkOf, firstIn}
-use Rattle.walk.specs.Probe.{entered, probed, probedBy, probeOf}
+use Rattle.walk.specs.Probe.{entered, probed, probedBy, probeOf, isPass}
 use Rattle.walk.specs.First.{tests, matchIn}
 use Rattle.walk.specs.declared.Found.{Found}
 use Rattle.walk.specs.declared.Probe.{Probe}
@@ -232,3 +232,27 @@ pub walk-whole : (depth : ℕ) (kind : Kind) (limit window : ℕ) (s : List ℕ)
     firstIn kind s type sub (walkFrom depth kind limit window s d (d .total) (d .total - d .total)) t ≡ firstIn kind s type sub (walkOf depth kind limit window s d) t
 unfolding firstIn
 walk-whole depth kind limit window s d type sub t = let z : d .total - d .total ≡ 0 = omega arith in ap (λ (i : ℕ). firstIn kind s type sub (walkFrom depth kind limit window s d (d .total) i) t) z
+
+-- an entry that is passed by, as the tests of its two bytes tell it
+pass-cases : (b1 b2 b3 : Bool) (r : Reply Directory) → isPass (cond b1 probe.Match (cond b2 (cond b3 probe.Pass (entered r)) probe.Pass)) ≡ cond b1 false (cond b2 b3 true)
+pass-cases true b2 b3 r = refl
+pass-cases false false b3 r = refl
+pass-cases false true true r = refl
+pass-cases false true false (given n) = refl
+pass-cases false true false (refused number carried) = refl
+
+pub pass-is : (depth : ℕ) (kind : Kind) (limit window : ℕ) (s : List ℕ) (d : Directory) (type sub i : ℕ) → i < d .total →
+    isPass (probeOf depth kind limit window s d type sub i) ≡ cond (matchOf (entryOf kind s d i) type sub) false (cond (eqb (entryOf kind s d i .class) (kind .lead)) (eqb depth 0) true)
+unfolding probed
+pass-is depth kind limit window s d type sub i h =
+    ap (λ (r : Reply Entry). isPass (probedBy (probed depth kind limit window s d type sub) r)) (all-entry kind s d i h)
+    ∙ pass-cases (matchOf (entryOf kind s d i) type sub) (eqb (entryOf kind s d i .class) (kind .lead)) (eqb depth 0) (levelTwoAt kind limit window s (d .place .0) (entryOf kind s d i))
+
+not-true : false ≡ true → ⊥
+not-true e = let z : _≡_ {A = ℕ} 0 1 = ap (λ (b : Bool). cond b 1 0) e in omega (arith, z)
+
+pub pass-told : (q : Probe) → isPass q ≡ true → probe.Pass ≡ q
+pass-told probe.Match e = absurd (not-true e)
+pass-told probe.Pass e = refl
+pass-told (probe.Enter n) e = absurd (not-true e)
+pass-told (probe.Refused why) e = absurd (not-true e)

@@ -1,7 +1,7 @@
 -- What the walk's inner functions promise of one entry: cited by private contracts alone, so a reader may skip it. Assumes nothing: these are definitions.
 use Prim.Native.Nat.{ℕ, _+_, _*_, _^_, _≤_}
 use mathlib.Core.List.{List}
-use mathlib.Core.Bool.{cond}
+use mathlib.Core.Bool.{Bool, true, false, cond}
 use lib.ListN.{length}
 use lib.Dec.{eqb}
 use Rattle.reply.specs.Reply.{Reply, given, refused}
@@ -32,6 +32,13 @@ probedBy test (refused number carried) = probe.Refused (record { number = number
 -- entry i of a directory
 abbrev pub probeOf : ℕ → Kind → ℕ → ℕ → List ℕ → Directory → ℕ → ℕ → ℕ → Probe
 probeOf depth kind limit window image d type sub i = probedBy (probed depth kind limit window image d type sub) (entryIn kind image d i)
+
+-- an entry that is passed by
+abbrev pub isPass : Probe → Bool
+isPass probe.Match = false
+isPass probe.Pass = true
+isPass (probe.Enter n) = false
+isPass (probe.Refused why) = false
 
 -- what keeps the numbers of a walk small: the image's length, two levels, 512 entries in each directory, and so the count
 pub record Small (image : List ℕ) (limit depth total left tested : ℕ) : Type 0 where

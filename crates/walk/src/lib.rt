@@ -1,11 +1,11 @@
 // The lookup in a whole flash image: a directory walk and an entry walk that call each other.
 ghost use mathlib.Core.Path.{_≡_};
-ghost use Prim.Native.Nat.{_-_, _<_, _≤_};
+ghost use Prim.Native.Nat.{_+_, _-_, _<_, _≤_};
 ghost use lib.ListN.{length};
 ghost use Rattle.reply.specs.Reply.{refused, alone};
 ghost use Rattle.flash.specs.Flash.{base, levelTwoAt, fromLookup};
 ghost use Rattle.walk.specs.Walk.{walkFrom, walkOf, firstIn, findImage, toldFound};
-ghost use Rattle.walk.specs.Probe.{entered, probed, probeOf, Small};
+ghost use Rattle.walk.specs.Probe.{entered, probed, probeOf, isPass, Small};
 use directory::Checked;
 use directory::Directory;
 use directory::Entry;
@@ -87,6 +87,37 @@ fn probe_entry(image: &[u8], by: Search, d: Directory, depth: u32, i: u32) -> Pr
     }
 }
 
+// Is entry i of a directory passed by? Two bytes tell.
+fn passes(image: &[u8], by: Search, d: Directory, depth: u32, i: u32) -> bool
+    requires { ⌜ i < d .total ⌝ }
+    ensures { λ r. ⌜ r ≡ isPass (probeOf depth (by .kind) (by .limit) (by .window) (now (image .entry)) d (by .class) (by .sub) i) ⌝ }
+{
+    let kind = by.kind;
+    if directory::entry_matches(image, kind, d.place, i, by.class, by.sub) {
+        return false;
+    }
+    if directory::class_of(image, kind, d.place, i) == kind.lead {
+        return depth == 0;
+    }
+    true
+}
+
+// Passes entries by: how many of the last entries of a directory are left where one is not passed by.
+fn pass_by(image: &[u8], by: Search, d: Directory, depth: u32, left: u32, tested: u32) -> u32
+    requires { ⌜ left ≤ d .total ⌝ }
+    ensures { λ r. ⌜ (r ≤ left) × (firstIn (by .kind) (now (image .entry)) (by .class) (by .sub) (walkFrom depth (by .kind) (by .limit) (by .window) (now (image .entry)) d r (d .total - r)) (tested + (left - r)) ≡ firstIn (by .kind) (now (image .entry)) (by .class) (by .sub) (walkFrom depth (by .kind) (by .limit) (by .window) (now (image .entry)) d left (d .total - left)) tested) ⌝ }
+{
+    let mut rest = left;
+    while 0 < rest {
+        if passes(image, by, d, depth, d.total - rest) {
+            rest -= 1;
+        } else {
+            return rest;
+        }
+    }
+    rest
+}
+
 // The walk of a directory, with so many levels left below it, after so many entries tested.
 fn walk_directory(image: &[u8], by: Search, d: Directory, depth: u32, tested: u32) -> Walked
     requires { ⌜ Small (now image) (by .limit) depth (d .total) (d .total) tested ⌝ }
@@ -100,10 +131,12 @@ fn walk_entry(image: &[u8], by: Search, d: Directory, depth: u32, left: u32, tes
     requires { ⌜ Small (now image) (by .limit) depth (d .total) left tested ⌝ }
     ensures { λ r. ⌜ toldFound r ≡ firstIn (by .kind) (now (image .entry)) (by .class) (by .sub) (walkFrom depth (by .kind) (by .limit) (by .window) (now (image .entry)) d left (d .total - left)) tested ⌝ }
 {
-    if left == 0 {
-        return Walked::Absent(tested);
+    let rest = pass_by(image, by, d, depth, left, tested);
+    let seen = tested + (left - rest);
+    if rest == 0 {
+        return Walked::Absent(seen);
     }
-    let i = d.total - left;
+    let i = d.total - rest;
     match probe_entry(image, by, d, depth, i) {
         Probe::Match => {
             let place = d.place;
@@ -111,13 +144,13 @@ fn walk_entry(image: &[u8], by: Search, d: Directory, depth: u32, left: u32, tes
                 place: place,
                 level: d.level,
                 index: i,
-                tested: tested + 1,
+                tested: seen + 1,
             })
         }
-        Probe::Pass => walk_entry(image, by, d, depth, left - 1, tested + 1),
-        Probe::Enter(n) => match walk_directory(image, by, n, depth - 1, tested + 1) {
+        Probe::Pass => walk_entry(image, by, d, depth, rest - 1, seen + 1),
+        Probe::Enter(n) => match walk_directory(image, by, n, depth - 1, seen + 1) {
             Walked::Given(f) => Walked::Given(f),
-            Walked::Absent(t) => walk_entry(image, by, d, depth, left - 1, t),
+            Walked::Absent(t) => walk_entry(image, by, d, depth, rest - 1, t),
             Walked::Refused(why) => Walked::Refused(why),
         },
         Probe::Refused(why) => Walked::Refused(why),

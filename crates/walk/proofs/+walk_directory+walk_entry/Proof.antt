@@ -14,6 +14,7 @@ use Rattle.walk.proofs.+walk_directory+walk_entry.Lts-walk_directory as
 use Rattle.walk.proofs.walk_entry.Reads as walk-entry
 use Rattle.walk.proofs.walk_entry.Kinds as walk-entry-kinds
 use Rattle.walk.proofs.+walk_directory+walk_entry.Lts-walk_entry as walk-entry-lts
+use Rattle.walk.proofs.pass_by.Reads as pass-by-reads
 use Rattle.walk.proofs.probe_entry.Reads as probe-entry-reads
 use Rattle.walk.proofs.+walk_directory+walk_entry.{statement}
 use Rattle.walk.proofs.+walk_directory+walk_entry.Tie.{close}
@@ -48,12 +49,14 @@ abbrev walk-entry-below : ℕ → In 1 walk-entry-kinds.ps
 walk-entry-below t =
     and 1 walk-entry-kinds.ps (falls 1 walk-entry-kinds.ps _<_ μ-walk-entry t) walk-entry.Pre
 
+-- src/lib.rt:126:5
 walk-directory-walk-entry-requires : (t : ℕ) → walk-directory-lts.Need-walk-entry-requires (
   walk-entry-below t,
   walk-entry.Post,
 ) (walk-directory-at t) walk-directory.Post
 walk-directory-walk-entry-requires t c κs = search needs
 
+-- src/lib.rt:122:1
 walk-directory-returns : (t : ℕ) → walk-directory-lts.Need-returns (
   walk-entry-below t,
   walk-entry.Post,
@@ -62,7 +65,49 @@ walk-directory-returns t c =
     let a = c .before .before .args in
     c .walk-entry .ensures ∙ walk-whole (a .depth) (a .by .kind) (a .by .limit) (a .by .window) (now (a .image)) (a .d) (a .by .class) (a .by .sub) (a .tested)
 
+-- src/lib.rt:134:9
+walk-entry-pass-by-requires : (t : ℕ) → walk-entry-lts.Need-pass-by-requires (
+  pass-by-reads.Asked,
+  pass-by-reads.Learnt,
+  probe-entry-reads.Asked,
+  probe-entry-reads.Learnt,
+  walk-entry-below t,
+  walk-entry.Post,
+  walk-directory-below t,
+  walk-directory.Post,
+) (walk-entry-at t) walk-entry.Post
+walk-entry-pass-by-requires t c κs = search needs
+
+-- src/lib.rt:135:26
+walk-entry-sub-seen : (t : ℕ) → walk-entry-lts.Need-sub-seen (
+  pass-by-reads.Asked,
+  pass-by-reads.Learnt,
+  probe-entry-reads.Asked,
+  probe-entry-reads.Learnt,
+  walk-entry-below t,
+  walk-entry.Post,
+  walk-directory-below t,
+  walk-directory.Post,
+) (walk-entry-at t) walk-entry.Post
+walk-entry-sub-seen t c = search needs
+
+-- src/lib.rt:135:16
+walk-entry-add-seen : (t : ℕ) → walk-entry-lts.Need-add-seen (
+  pass-by-reads.Asked,
+  pass-by-reads.Learnt,
+  probe-entry-reads.Asked,
+  probe-entry-reads.Learnt,
+  walk-entry-below t,
+  walk-entry.Post,
+  walk-directory-below t,
+  walk-directory.Post,
+) (walk-entry-at t) walk-entry.Post
+walk-entry-add-seen t c = search needs
+
+-- src/lib.rt:137:9
 walk-entry-returns : (t : ℕ) → walk-entry-lts.Need-returns (
+  pass-by-reads.Asked,
+  pass-by-reads.Learnt,
   probe-entry-reads.Asked,
   probe-entry-reads.Learnt,
   walk-entry-below t,
@@ -71,10 +116,15 @@ walk-entry-returns : (t : ℕ) → walk-entry-lts.Need-returns (
   walk-directory.Post,
 ) (walk-entry-at t) walk-entry.Post
 walk-entry-returns t c =
-    let a = c .before .before .args in
-    walk-none (a .depth) (a .by .kind) (a .by .limit) (a .by .window) (now (a .image)) (a .d) (a .by .class) (a .by .sub) (a .left) (a .d .total - a .left) (a .tested) (c .if1 .taken)
+    let a = c .before .before .before .args in
+    let pb = c .before .pass-by in
+    let r = pb .result in
+    (walk-none (a .depth) (a .by .kind) (a .by .limit) (a .by .window) (now (a .image)) (a .d) (a .by .class) (a .by .sub) r (a .d .total - r) (a .tested + (a .left - r)) (c .if1 .taken)) ∙ pb .ensures .1
 
+-- src/lib.rt:139:13
 walk-entry-sub-i : (t : ℕ) → walk-entry-lts.Need-sub-i (
+  pass-by-reads.Asked,
+  pass-by-reads.Learnt,
   probe-entry-reads.Asked,
   probe-entry-reads.Learnt,
   walk-entry-below t,
@@ -84,7 +134,10 @@ walk-entry-sub-i : (t : ℕ) → walk-entry-lts.Need-sub-i (
 ) (walk-entry-at t) walk-entry.Post
 walk-entry-sub-i t c = search needs
 
+-- src/lib.rt:140:11
 walk-entry-probe-entry-requires : (t : ℕ) → walk-entry-lts.Need-probe-entry-requires (
+  pass-by-reads.Asked,
+  pass-by-reads.Learnt,
   probe-entry-reads.Asked,
   probe-entry-reads.Learnt,
   walk-entry-below t,
@@ -94,7 +147,10 @@ walk-entry-probe-entry-requires : (t : ℕ) → walk-entry-lts.Need-probe-entry-
 ) (walk-entry-at t) walk-entry.Post
 walk-entry-probe-entry-requires t c κs = search needs
 
+-- src/lib.rt:142:17
 walk-entry-enum-told : (t : ℕ) → walk-entry-lts.Need-enum-told (
+  pass-by-reads.Asked,
+  pass-by-reads.Learnt,
   probe-entry-reads.Asked,
   probe-entry-reads.Learnt,
   walk-entry-below t,
@@ -104,7 +160,10 @@ walk-entry-enum-told : (t : ℕ) → walk-entry-lts.Need-enum-told (
 ) (walk-entry-at t) walk-entry.Post
 walk-entry-enum-told t c = search needs
 
-walk-entry-add-t17 : (t : ℕ) → walk-entry-lts.Need-add-t17 (
+-- src/lib.rt:147:25
+walk-entry-add-t20 : (t : ℕ) → walk-entry-lts.Need-add-t20 (
+  pass-by-reads.Asked,
+  pass-by-reads.Learnt,
   probe-entry-reads.Asked,
   probe-entry-reads.Learnt,
   walk-entry-below t,
@@ -112,9 +171,12 @@ walk-entry-add-t17 : (t : ℕ) → walk-entry-lts.Need-add-t17 (
   walk-directory-below t,
   walk-directory.Post,
 ) (walk-entry-at t) walk-entry.Post
-walk-entry-add-t17 t c = search needs
+walk-entry-add-t20 t c = search needs
 
+-- src/lib.rt:150:56
 walk-entry-enum-told-2 : (t : ℕ) → walk-entry-lts.Need-enum-told-2 (
+  pass-by-reads.Asked,
+  pass-by-reads.Learnt,
   probe-entry-reads.Asked,
   probe-entry-reads.Learnt,
   walk-entry-below t,
@@ -124,7 +186,10 @@ walk-entry-enum-told-2 : (t : ℕ) → walk-entry-lts.Need-enum-told-2 (
 ) (walk-entry-at t) walk-entry.Post
 walk-entry-enum-told-2 t c = search needs
 
+-- src/lib.rt:150:56
 walk-entry-sub-walk-entry : (t : ℕ) → walk-entry-lts.Need-sub-walk-entry (
+  pass-by-reads.Asked,
+  pass-by-reads.Learnt,
   probe-entry-reads.Asked,
   probe-entry-reads.Learnt,
   walk-entry-below t,
@@ -134,7 +199,10 @@ walk-entry-sub-walk-entry : (t : ℕ) → walk-entry-lts.Need-sub-walk-entry (
 ) (walk-entry-at t) walk-entry.Post
 walk-entry-sub-walk-entry t c = search needs
 
+-- src/lib.rt:150:66
 walk-entry-add-walk-entry : (t : ℕ) → walk-entry-lts.Need-add-walk-entry (
+  pass-by-reads.Asked,
+  pass-by-reads.Learnt,
   probe-entry-reads.Asked,
   probe-entry-reads.Learnt,
   walk-entry-below t,
@@ -144,7 +212,10 @@ walk-entry-add-walk-entry : (t : ℕ) → walk-entry-lts.Need-add-walk-entry (
 ) (walk-entry-at t) walk-entry.Post
 walk-entry-add-walk-entry t c = search needs
 
+-- src/lib.rt:150:24
 walk-entry-walk-entry-requires : (t : ℕ) → walk-entry-lts.Need-walk-entry-requires (
+  pass-by-reads.Asked,
+  pass-by-reads.Learnt,
   probe-entry-reads.Asked,
   probe-entry-reads.Learnt,
   walk-entry-below t,
@@ -154,7 +225,10 @@ walk-entry-walk-entry-requires : (t : ℕ) → walk-entry-lts.Need-walk-entry-re
 ) (walk-entry-at t) walk-entry.Post
 walk-entry-walk-entry-requires t c κs = search needs
 
+-- src/lib.rt:151:22
 walk-entry-enum-known-n : (t : ℕ) → walk-entry-lts.Need-enum-known-n (
+  pass-by-reads.Asked,
+  pass-by-reads.Learnt,
   probe-entry-reads.Asked,
   probe-entry-reads.Learnt,
   walk-entry-below t,
@@ -164,7 +238,10 @@ walk-entry-enum-known-n : (t : ℕ) → walk-entry-lts.Need-enum-known-n (
 ) (walk-entry-at t) walk-entry.Post
 walk-entry-enum-known-n t c = search needs
 
+-- src/lib.rt:151:63
 walk-entry-sub-walk-directory : (t : ℕ) → walk-entry-lts.Need-sub-walk-directory (
+  pass-by-reads.Asked,
+  pass-by-reads.Learnt,
   probe-entry-reads.Asked,
   probe-entry-reads.Learnt,
   walk-entry-below t,
@@ -173,12 +250,17 @@ walk-entry-sub-walk-directory : (t : ℕ) → walk-entry-lts.Need-sub-walk-direc
   walk-directory.Post,
 ) (walk-entry-at t) walk-entry.Post
 walk-entry-sub-walk-directory t c =
-    let a = c .before .before .before .before .before .before .before .args in
+    let a = c .before .before .before .before .before .before .before .before .args in
+    let pb = c .before .before .before .before .before .before .pass-by in
+    let r = pb .result in
     let n = c .before .n .given in
     let q = sym (n .1) ∙ c .before .before .before .probe-entry .ensures in
-    omega (arith, enter-facts (a .depth) (a .by .kind) (a .by .limit) (a .by .window) (now (a .image)) (a .d) (a .by .class) (a .by .sub) (a .left) (a .tested) (omega arith) (omega arith) (n .0 .0) q .0)
+    omega (arith, enter-facts (a .depth) (a .by .kind) (a .by .limit) (a .by .window) (now (a .image)) (a .d) (a .by .class) (a .by .sub) r (a .tested + (a .left - r)) (omega arith) (omega arith) (n .0 .0) q .0)
 
+-- src/lib.rt:151:74
 walk-entry-add-walk-directory : (t : ℕ) → walk-entry-lts.Need-add-walk-directory (
+  pass-by-reads.Asked,
+  pass-by-reads.Learnt,
   probe-entry-reads.Asked,
   probe-entry-reads.Learnt,
   walk-entry-below t,
@@ -188,7 +270,10 @@ walk-entry-add-walk-directory : (t : ℕ) → walk-entry-lts.Need-add-walk-direc
 ) (walk-entry-at t) walk-entry.Post
 walk-entry-add-walk-directory t c = search needs
 
+-- src/lib.rt:151:34
 walk-entry-walk-directory-requires : (t : ℕ) → walk-entry-lts.Need-walk-directory-requires (
+  pass-by-reads.Asked,
+  pass-by-reads.Learnt,
   probe-entry-reads.Asked,
   probe-entry-reads.Learnt,
   walk-entry-below t,
@@ -197,13 +282,18 @@ walk-entry-walk-directory-requires : (t : ℕ) → walk-entry-lts.Need-walk-dire
   walk-directory.Post,
 ) (walk-entry-at t) walk-entry.Post
 walk-entry-walk-directory-requires t c κs =
-    let a = c .before .before .before .before .before .before .before .args in
+    let a = c .before .before .before .before .before .before .before .before .args in
+    let pb = c .before .before .before .before .before .before .pass-by in
+    let r = pb .result in
     let n = c .before .n .given in
     let q = sym (n .1) ∙ c .before .before .before .probe-entry .ensures in
-    let f = enter-facts (a .depth) (a .by .kind) (a .by .limit) (a .by .window) (now (a .image)) (a .d) (a .by .class) (a .by .sub) (a .left) (a .tested) (omega arith) (omega arith) (n .0 .0) q in
+    let f = enter-facts (a .depth) (a .by .kind) (a .by .limit) (a .by .window) (now (a .image)) (a .d) (a .by .class) (a .by .sub) r (a .tested + (a .left - r)) (omega arith) (omega arith) (n .0 .0) q in
     omega (arith, f .0, f .1)
 
+-- src/lib.rt:152:27
 walk-entry-enum-known-f : (t : ℕ) → walk-entry-lts.Need-enum-known-f (
+  pass-by-reads.Asked,
+  pass-by-reads.Learnt,
   probe-entry-reads.Asked,
   probe-entry-reads.Learnt,
   walk-entry-below t,
@@ -213,7 +303,10 @@ walk-entry-enum-known-f : (t : ℕ) → walk-entry-lts.Need-enum-known-f (
 ) (walk-entry-at t) walk-entry.Post
 walk-entry-enum-known-f t c = search needs
 
+-- src/lib.rt:153:28
 walk-entry-enum-known-t : (t : ℕ) → walk-entry-lts.Need-enum-known-t (
+  pass-by-reads.Asked,
+  pass-by-reads.Learnt,
   probe-entry-reads.Asked,
   probe-entry-reads.Learnt,
   walk-entry-below t,
@@ -223,7 +316,10 @@ walk-entry-enum-known-t : (t : ℕ) → walk-entry-lts.Need-enum-known-t (
 ) (walk-entry-at t) walk-entry.Post
 walk-entry-enum-known-t t c = search needs
 
+-- src/lib.rt:153:66
 walk-entry-sub-walk-entry-2 : (t : ℕ) → walk-entry-lts.Need-sub-walk-entry-2 (
+  pass-by-reads.Asked,
+  pass-by-reads.Learnt,
   probe-entry-reads.Asked,
   probe-entry-reads.Learnt,
   walk-entry-below t,
@@ -233,7 +329,10 @@ walk-entry-sub-walk-entry-2 : (t : ℕ) → walk-entry-lts.Need-sub-walk-entry-2
 ) (walk-entry-at t) walk-entry.Post
 walk-entry-sub-walk-entry-2 t c = search needs
 
+-- src/lib.rt:153:34
 walk-entry-walk-entry-requires-2 : (t : ℕ) → walk-entry-lts.Need-walk-entry-requires-2 (
+  pass-by-reads.Asked,
+  pass-by-reads.Learnt,
   probe-entry-reads.Asked,
   probe-entry-reads.Learnt,
   walk-entry-below t,
@@ -242,14 +341,19 @@ walk-entry-walk-entry-requires-2 : (t : ℕ) → walk-entry-lts.Need-walk-entry-
   walk-directory.Post,
 ) (walk-entry-at t) walk-entry.Post
 walk-entry-walk-entry-requires-2 t c κs =
-    let a = c .before .before .before .before .before .before .before .before .before .before .before .args in
+    let a = c .before .before .before .before .before .before .before .before .before .before .before .before .args in
+    let pb = c .before .before .before .before .before .before .before .before .before .before .pass-by in
+    let r = pb .result in
     let n = c .before .before .before .before .before .n .given in
     let q = sym (n .1) ∙ c .before .before .before .before .before .before .before .probe-entry .ensures in
-    let f = enter-facts (a .depth) (a .by .kind) (a .by .limit) (a .by .window) (now (a .image)) (a .d) (a .by .class) (a .by .sub) (a .left) (a .tested) (omega arith) (omega arith) (n .0 .0) q in
+    let f = enter-facts (a .depth) (a .by .kind) (a .by .limit) (a .by .window) (now (a .image)) (a .d) (a .by .class) (a .by .sub) r (a .tested + (a .left - r)) (omega arith) (omega (arith, pb .ensures .0, c .before .before .before .before .before .before .before .before .before .before .before .before .pre)) (n .0 .0) q in
     let u = c .before .t .given in
-    omega (arith, f .0, f .1, enter-count (a .depth) (a .by .kind) (a .by .limit) (a .by .window) (now (a .image)) (a .d) (a .by .class) (a .by .sub) (a .left) (a .tested) (omega arith) (omega arith) (n .0 .0) q (u .0 .0) (ap toldFound (sym (u .1)) ∙ c .before .before .before .walk-directory .ensures) (omega arith))
+    omega (arith, f .0, f .1, enter-count (a .depth) (a .by .kind) (a .by .limit) (a .by .window) (now (a .image)) (a .d) (a .by .class) (a .by .sub) r (a .tested + (a .left - r)) (omega arith) (omega (arith, pb .ensures .0, c .before .before .before .before .before .before .before .before .before .before .before .before .pre)) (n .0 .0) q (u .0 .0) (ap toldFound (sym (u .1)) ∙ c .before .before .before .walk-directory .ensures) (omega (arith, pb .ensures .0, c .before .before .before .before .before .before .before .before .before .before .before .before .pre)), pb .ensures .0, c .before .before .before .before .before .before .before .before .before .before .before .before .pre)
 
+-- src/lib.rt:154:29
 walk-entry-enum-known-why : (t : ℕ) → walk-entry-lts.Need-enum-known-why (
+  pass-by-reads.Asked,
+  pass-by-reads.Learnt,
   probe-entry-reads.Asked,
   probe-entry-reads.Learnt,
   walk-entry-below t,
@@ -259,7 +363,10 @@ walk-entry-enum-known-why : (t : ℕ) → walk-entry-lts.Need-enum-known-why (
 ) (walk-entry-at t) walk-entry.Post
 walk-entry-enum-known-why t c = search needs
 
+-- src/lib.rt:156:24
 walk-entry-enum-known-why-2 : (t : ℕ) → walk-entry-lts.Need-enum-known-why-2 (
+  pass-by-reads.Asked,
+  pass-by-reads.Learnt,
   probe-entry-reads.Asked,
   probe-entry-reads.Learnt,
   walk-entry-below t,
@@ -269,7 +376,10 @@ walk-entry-enum-known-why-2 : (t : ℕ) → walk-entry-lts.Need-enum-known-why-2
 ) (walk-entry-at t) walk-entry.Post
 walk-entry-enum-known-why-2 t c = search needs
 
+-- src/lib.rt:130:1
 walk-entry-returns-2 : (t : ℕ) → walk-entry-lts.Need-returns-2 (
+  pass-by-reads.Asked,
+  pass-by-reads.Learnt,
   probe-entry-reads.Asked,
   probe-entry-reads.Learnt,
   walk-entry-below t,
@@ -278,10 +388,15 @@ walk-entry-returns-2 : (t : ℕ) → walk-entry-lts.Need-returns-2 (
   walk-directory.Post,
 ) (walk-entry-at t) walk-entry.Post
 walk-entry-returns-2 t c =
-    let a = c .before .before .before .before .before .before .before .args in
-    by-match (a .depth) (a .by .kind) (a .by .limit) (a .by .window) (now (a .image)) (a .d) (a .by .class) (a .by .sub) (a .left) (a .tested) (omega arith) (omega arith) (sym (c .before .enum-told .given .1) ∙ c .before .before .before .probe-entry .ensures)
+    let a = c .before .before .before .before .before .before .before .before .args in
+    let pb = c .before .before .before .before .before .before .pass-by in
+    let r = pb .result in
+    (by-match (a .depth) (a .by .kind) (a .by .limit) (a .by .window) (now (a .image)) (a .d) (a .by .class) (a .by .sub) r (a .tested + (a .left - r)) (omega arith) (omega arith) (sym (c .before .enum-told .given .1) ∙ c .before .before .before .probe-entry .ensures)) ∙ pb .ensures .1
 
+-- src/lib.rt:130:1
 walk-entry-returns-3 : (t : ℕ) → walk-entry-lts.Need-returns-3 (
+  pass-by-reads.Asked,
+  pass-by-reads.Learnt,
   probe-entry-reads.Asked,
   probe-entry-reads.Learnt,
   walk-entry-below t,
@@ -290,10 +405,15 @@ walk-entry-returns-3 : (t : ℕ) → walk-entry-lts.Need-returns-3 (
   walk-directory.Post,
 ) (walk-entry-at t) walk-entry.Post
 walk-entry-returns-3 t c =
-    let a = c .before .before .before .before .before .before .before .args in
-    c .walk-entry .ensures ∙ by-pass (a .depth) (a .by .kind) (a .by .limit) (a .by .window) (now (a .image)) (a .d) (a .by .class) (a .by .sub) (a .left) (a .tested) (omega arith) (omega arith) (sym (c .before .enum-told2 .given .1) ∙ c .before .before .before .probe-entry .ensures)
+    let a = c .before .before .before .before .before .before .before .before .args in
+    let pb = c .before .before .before .before .before .before .pass-by in
+    let r = pb .result in
+    (c .walk-entry .ensures ∙ by-pass (a .depth) (a .by .kind) (a .by .limit) (a .by .window) (now (a .image)) (a .d) (a .by .class) (a .by .sub) r (a .tested + (a .left - r)) (omega arith) (omega arith) (sym (c .before .enum-told2 .given .1) ∙ c .before .before .before .probe-entry .ensures)) ∙ pb .ensures .1
 
+-- src/lib.rt:130:1
 walk-entry-returns-4 : (t : ℕ) → walk-entry-lts.Need-returns-4 (
+  pass-by-reads.Asked,
+  pass-by-reads.Learnt,
   probe-entry-reads.Asked,
   probe-entry-reads.Learnt,
   walk-entry-below t,
@@ -302,13 +422,18 @@ walk-entry-returns-4 : (t : ℕ) → walk-entry-lts.Need-returns-4 (
   walk-directory.Post,
 ) (walk-entry-at t) walk-entry.Post
 walk-entry-returns-4 t c =
-    let a = c .before .before .before .before .before .before .before .before .before .before .before .args in
+    let a = c .before .before .before .before .before .before .before .before .before .before .before .before .args in
+    let pb = c .before .before .before .before .before .before .before .before .before .before .pass-by in
+    let r = pb .result in
     let n = c .before .before .before .before .before .n .given in
     let q = sym (n .1) ∙ c .before .before .before .before .before .before .before .probe-entry .ensures in
     let f = c .before .f .given in
-    enter-given (a .depth) (a .by .kind) (a .by .limit) (a .by .window) (now (a .image)) (a .d) (a .by .class) (a .by .sub) (a .left) (a .tested) (omega (arith, c .before .before .before .before .before .before .before .before .before .if1 .left)) (omega (arith, c .before .before .before .before .before .before .before .before .before .before .before .pre)) (n .0 .0) q (f .0 .0) (ap toldFound (sym (f .1)) ∙ c .before .before .before .walk-directory .ensures)
+    (enter-given (a .depth) (a .by .kind) (a .by .limit) (a .by .window) (now (a .image)) (a .d) (a .by .class) (a .by .sub) r (a .tested + (a .left - r)) (omega (arith, c .before .before .before .before .before .before .before .before .before .if1 .left)) (omega (arith, c .before .before .before .before .before .before .before .before .before .before .before .before .pre)) (n .0 .0) q (f .0 .0) (ap toldFound (sym (f .1)) ∙ c .before .before .before .walk-directory .ensures)) ∙ pb .ensures .1
 
+-- src/lib.rt:130:1
 walk-entry-returns-5 : (t : ℕ) → walk-entry-lts.Need-returns-5 (
+  pass-by-reads.Asked,
+  pass-by-reads.Learnt,
   probe-entry-reads.Asked,
   probe-entry-reads.Learnt,
   walk-entry-below t,
@@ -317,13 +442,18 @@ walk-entry-returns-5 : (t : ℕ) → walk-entry-lts.Need-returns-5 (
   walk-directory.Post,
 ) (walk-entry-at t) walk-entry.Post
 walk-entry-returns-5 t c =
-    let a = c .before .before .before .before .before .before .before .before .before .before .before .before .args in
+    let a = c .before .before .before .before .before .before .before .before .before .before .before .before .before .args in
+    let pb = c .before .before .before .before .before .before .before .before .before .before .before .pass-by in
+    let r = pb .result in
     let n = c .before .before .before .before .before .before .n .given in
     let q = sym (n .1) ∙ c .before .before .before .before .before .before .before .before .probe-entry .ensures in
     let u = c .before .before .t .given in
-    c .walk-entry2 .ensures ∙ enter-absent (a .depth) (a .by .kind) (a .by .limit) (a .by .window) (now (a .image)) (a .d) (a .by .class) (a .by .sub) (a .left) (a .tested) (omega (arith, c .before .before .before .before .before .before .before .before .before .before .if1 .left)) (omega (arith, c .before .before .before .before .before .before .before .before .before .before .before .before .pre)) (n .0 .0) q (u .0 .0) (ap toldFound (sym (u .1)) ∙ c .before .before .before .before .walk-directory .ensures)
+    (c .walk-entry2 .ensures ∙ enter-absent (a .depth) (a .by .kind) (a .by .limit) (a .by .window) (now (a .image)) (a .d) (a .by .class) (a .by .sub) r (a .tested + (a .left - r)) (omega (arith, c .before .before .before .before .before .before .before .before .before .before .if1 .left)) (omega (arith, c .before .before .before .before .before .before .before .before .before .before .before .before .before .pre)) (n .0 .0) q (u .0 .0) (ap toldFound (sym (u .1)) ∙ c .before .before .before .before .walk-directory .ensures)) ∙ pb .ensures .1
 
+-- src/lib.rt:130:1
 walk-entry-returns-6 : (t : ℕ) → walk-entry-lts.Need-returns-6 (
+  pass-by-reads.Asked,
+  pass-by-reads.Learnt,
   probe-entry-reads.Asked,
   probe-entry-reads.Learnt,
   walk-entry-below t,
@@ -332,13 +462,18 @@ walk-entry-returns-6 : (t : ℕ) → walk-entry-lts.Need-returns-6 (
   walk-directory.Post,
 ) (walk-entry-at t) walk-entry.Post
 walk-entry-returns-6 t c =
-    let a = c .before .before .before .before .before .before .before .before .before .before .before .args in
+    let a = c .before .before .before .before .before .before .before .before .before .before .before .before .args in
+    let pb = c .before .before .before .before .before .before .before .before .before .before .pass-by in
+    let r = pb .result in
     let n = c .before .before .before .before .before .n .given in
     let q = sym (n .1) ∙ c .before .before .before .before .before .before .before .probe-entry .ensures in
     let w = c .before .why .given in
-    enter-refused (a .depth) (a .by .kind) (a .by .limit) (a .by .window) (now (a .image)) (a .d) (a .by .class) (a .by .sub) (a .left) (a .tested) (omega arith) (omega arith) (n .0 .0) q (w .0 .0 .number) (ap toldFound (sym (w .1)) ∙ c .before .before .before .walk-directory .ensures)
+    (enter-refused (a .depth) (a .by .kind) (a .by .limit) (a .by .window) (now (a .image)) (a .d) (a .by .class) (a .by .sub) r (a .tested + (a .left - r)) (omega arith) (omega (arith, pb .ensures .0, c .before .before .before .before .before .before .before .before .before .before .before .before .pre)) (n .0 .0) q (w .0 .0 .number) (ap toldFound (sym (w .1)) ∙ c .before .before .before .walk-directory .ensures)) ∙ pb .ensures .1
 
+-- src/lib.rt:130:1
 walk-entry-returns-7 : (t : ℕ) → walk-entry-lts.Need-returns-7 (
+  pass-by-reads.Asked,
+  pass-by-reads.Learnt,
   probe-entry-reads.Asked,
   probe-entry-reads.Learnt,
   walk-entry-below t,
@@ -347,9 +482,11 @@ walk-entry-returns-7 : (t : ℕ) → walk-entry-lts.Need-returns-7 (
   walk-directory.Post,
 ) (walk-entry-at t) walk-entry.Post
 walk-entry-returns-7 t c =
-    let a = c .before .before .before .before .before .before .before .args in
+    let a = c .before .before .before .before .before .before .before .before .args in
+    let pb = c .before .before .before .before .before .before .pass-by in
+    let r = pb .result in
     let w = c .before .why2 .given in
-    by-fault (a .depth) (a .by .kind) (a .by .limit) (a .by .window) (now (a .image)) (a .d) (a .by .class) (a .by .sub) (a .left) (a .tested) (omega arith) (omega arith) (w .0 .0) (sym (w .1) ∙ c .before .before .before .probe-entry .ensures)
+    (by-fault (a .depth) (a .by .kind) (a .by .limit) (a .by .window) (now (a .image)) (a .d) (a .by .class) (a .by .sub) r (a .tested + (a .left - r)) (omega arith) (omega arith) (w .0 .0) (sym (w .1) ∙ c .before .before .before .probe-entry .ensures)) ∙ pb .ensures .1
 
 pub +walk-directory+walk-entry-spec : {M : Type 1} → statement M
 +walk-directory+walk-entry-spec =
@@ -362,6 +499,8 @@ pub +walk-directory+walk-entry-spec : {M : Type 1} → statement M
     (walk-directory-walk-entry-requires t)
     (walk-directory-returns t))
     λ t. walk-entry-lts.spec (
+      pass-by-reads.Asked,
+      pass-by-reads.Learnt,
       probe-entry-reads.Asked,
       probe-entry-reads.Learnt,
       walk-entry-below t,
@@ -371,11 +510,14 @@ pub +walk-directory+walk-entry-spec : {M : Type 1} → statement M
     )
     (walk-entry-at t)
     walk-entry.Post
+    (walk-entry-pass-by-requires t)
+    (walk-entry-sub-seen t)
+    (walk-entry-add-seen t)
     (walk-entry-returns t)
     (walk-entry-sub-i t)
     (walk-entry-probe-entry-requires t)
     (walk-entry-enum-told t)
-    (walk-entry-add-t17 t)
+    (walk-entry-add-t20 t)
     (walk-entry-enum-told-2 t)
     (walk-entry-sub-walk-entry t)
     (walk-entry-add-walk-entry t)
