@@ -49,13 +49,19 @@ rows_under() { awk -v wanted="$2" '/^## / { on = $0 ~ wanted } on && /^\| / && !
 # One column of the tables under a crate's heading in PROMISES.md, counted from the left, or from the right where it is below 0.
 cells() { rows_under PROMISES.md "^## $1\$" | awk -F' *[|] *' -v k="$2" '{ print k < 0 ? $(NF + k) : $(k + 1) }' | quoted; } # CRATE COLUMN
 
-calls_of() { grep -rhoE '\bpub (extern "C" )?fn [a-z0-9_]+' "crates/$1/src" | awk '{ print $NF }' | sort; } # CRATE
+# A crate's public calls; one of a type with the type's name before it.
+calls_of() { # CRATE
+    find "crates/$1/src" -name '*.rt' -exec awk '
+        /^impl / { type = $2 "::" }
+        /^}/ { type = "" }
+        match($0, /^ *pub (extern "C" )?fn [a-z0-9_]+/) { n = split(substr($0, RSTART, RLENGTH), word, " "); print type word[n] }' {} + | sort
+}
 edits_of() { find "crates/$1/must-fail" -name '*.edit' 2>/dev/null | sed 's:.*/::; s:\.edit$::' | sort; } # CRATE
 
 # A crate's calls and edits are those of its tables, no more and no fewer, and each definition in its promises is one that it uses.
 crate_is_told() { # CRATE
     local word lost=0
-    diff <(calls_of "$1") <(cells "$1" 1 | sed 's/.*:://' | sort -u) || { echo "< a call of $1, > a call in docs/PROMISES.md"; lost=1; }
+    diff <(calls_of "$1") <(cells "$1" 1 | sort -u) || { echo "< a call of $1, > a call in docs/PROMISES.md"; lost=1; }
     diff <(edits_of "$1") <(cells "$1" -1 | sort -u) || { echo "< an edit of $1, > an edit in docs/PROMISES.md"; lost=1; }
     while IFS= read -r word; do
         [ "$word" = s ] || grep -rqwF -- "$word" "crates/$1/src" || { printf 'the contracts of %s do not use %s\n' "$1" "$word"; lost=1; }
