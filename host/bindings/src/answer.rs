@@ -17,6 +17,7 @@ pub struct Refusal {
 
 impl Refusal {
     /// A refusal that is its number alone.
+    #[inline]
     pub fn alone(number: u64) -> Refusal {
         let tested = None;
         Refusal { number, tested }
@@ -36,6 +37,7 @@ impl fmt::Display for Refusal {
 impl std::error::Error for Refusal {}
 
 /// The answer of a call that has no values to give.
+#[inline]
 pub(crate) fn done_by(number: u64) -> Answer<()> {
     match number {
         0 => Ok(()),
@@ -44,6 +46,7 @@ pub(crate) fn done_by(number: u64) -> Answer<()> {
 }
 
 /// Makes a call with `ROOM` words lent for its values, and reads what it gives out of them.
+#[inline]
 pub(crate) fn answer_of<T, const ROOM: usize>(
     call: impl FnOnce(&mut [u64; ROOM]) -> u64,
     given: impl FnOnce(&[u64; ROOM]) -> T,
@@ -53,6 +56,7 @@ pub(crate) fn answer_of<T, const ROOM: usize>(
 }
 
 /// The same for a lookup, which with number 8 leaves the count of entries tested in the first word.
+#[inline]
 pub(crate) fn lookup_of<T, const ROOM: usize>(
     call: impl FnOnce(&mut [u64; ROOM]) -> u64,
     given: impl FnOnce(&[u64; ROOM]) -> T,

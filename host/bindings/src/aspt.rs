@@ -50,21 +50,28 @@ pub struct AsptStructure {
 }
 
 /// Reads the table in the first 112 bytes.
+#[inline]
 pub fn aspt_read(bytes: &[u8]) -> Answer<AsptTable> {
     answer_of(|words| read_into(bytes, words), AsptTable::of_words)
 }
 
 /// Writes a table over the buffer's first 112 bytes.
+#[inline]
 pub fn aspt_write(buffer: &mut [u8], table: &AsptTable) -> Answer<()> {
     done_by(write_from(buffer, &table.words()))
 }
 
 impl AsptTable {
+    #[inline]
     fn of_words(words: &[u64; ALL]) -> AsptTable {
         let structure = |at: usize| AsptStructure {
             kind: words[at] as u16,
             id: words[at + 1] as u8,
-            registers: [2, 3, 4].map(|field| words[at + field] as u32),
+            registers: [
+                words[at + 2] as u32,
+                words[at + 3] as u32,
+                words[at + 4] as u32,
+            ],
         };
         let [o0, o1, o2, o3, o4, o5, ..] = words[0].to_le_bytes();
         AsptTable {
@@ -75,10 +82,15 @@ impl AsptTable {
             creator_revision: words[4] as u32,
             base: words[5],
             pages: words[6] as u32,
-            structures: [0, 1, 2].map(|i| structure(STRUCTURES + 5 * i)),
+            structures: [
+                structure(STRUCTURES),
+                structure(STRUCTURES + 5),
+                structure(STRUCTURES + 10),
+            ],
         }
     }
 
+    #[inline]
     fn words(&self) -> [u64; ALL] {
         let mut words = [0; ALL];
         let [o0, o1, o2, o3, o4, o5] = self.oem;
@@ -104,11 +116,13 @@ impl AsptTable {
 
 // The exported calls, with the words as a caller lends them.
 
+#[inline]
 fn read_into(bytes: &[u8], words: &mut [u64]) -> u64 {
     // SAFETY: lent slices, as the crate's page says.
     unsafe { kpalumere_aspt_read(bytes.as_ptr(), bytes.len(), words.as_mut_ptr(), words.len()) }
 }
 
+#[inline]
 fn write_from(buffer: &mut [u8], words: &[u64]) -> u64 {
     // SAFETY: lent slices, as the crate's page says.
     unsafe {

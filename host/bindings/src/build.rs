@@ -30,12 +30,14 @@ pub struct NewEntry {
 }
 
 /// Writes an empty directory of a level at the buffer's start.
+#[inline]
 pub fn start(buffer: &mut [u8], level: u32) -> Answer<()> {
     // SAFETY: a lent slice, as the crate's page says.
     done_by(unsafe { kpalumere_start(buffer.as_mut_ptr(), buffer.len(), level) })
 }
 
 /// Adds an entry to the directory at the buffer's start, and answers the new total.
+#[inline]
 pub fn extend(buffer: &mut [u8], entry: &NewEntry) -> Answer<u64> {
     answer_of(
         |words: &mut [u64; 1]| extend_into(buffer, entry, words),
@@ -44,6 +46,7 @@ pub fn extend(buffer: &mut [u8], entry: &NewEntry) -> Answer<u64> {
 }
 
 /// The exported call, with the words as a caller lends them.
+#[inline]
 fn extend_into(buffer: &mut [u8], entry: &NewEntry, words: &mut [u64]) -> u64 {
     // SAFETY: lent slices, as the crate's page says.
     unsafe {

@@ -12,6 +12,7 @@ extern "C" {
 }
 
 /// The exported call, with the words as a caller lends them.
+#[inline]
 fn checksum_into(bytes: &[u8], words: &mut [u64]) -> u64 {
     // SAFETY: a slice of Rust is aligned, not null and as long as it says, and a shared and a mutable one never
     // overlap. The library is proved to read and write nothing else.
@@ -20,6 +21,7 @@ fn checksum_into(bytes: &[u8], words: &mut [u64]) -> u64 {
 
 /// The checksum of the lent bytes, taken as 16-bit words; a last odd byte has no part in it. A directory holds the
 /// checksum of its bytes from 8 on in the four bytes at 4.
+#[inline]
 pub fn checksum(bytes: &[u8]) -> Answer<u64> {
     answer_of(
         |words: &mut [u64; 1]| checksum_into(bytes, words),

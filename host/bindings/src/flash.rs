@@ -102,6 +102,7 @@ pub struct Entry {
 
 impl Entry {
     /// The entry whose fields stand in these words.
+    #[inline]
     pub(crate) fn of_words(words: &[u64; 5]) -> Entry {
         let [class, subprogram, size, location, mode] = *words;
         Entry {
@@ -123,6 +124,7 @@ pub struct Part {
 
 impl Part {
     /// The part that these words tell.
+    #[inline]
     pub(crate) fn of_words(words: &[u64; 2]) -> Part {
         let [place, length] = *words;
         Part { place, length }
@@ -149,6 +151,7 @@ pub struct ImageMatch {
 }
 
 /// The EFS of an image.
+#[inline]
 pub fn efs(image: &[u8]) -> Answer<Efs> {
     answer_of(
         |words: &mut [u64; 3]| efs_into(image, words),
@@ -157,6 +160,7 @@ pub fn efs(image: &[u8]) -> Answer<Efs> {
 }
 
 /// The directory pointer of an image, and where it leads.
+#[inline]
 pub fn pointer(image: &[u8]) -> Answer<Pointer> {
     answer_of(
         |words: &mut [u64; 3]| pointer_into(image, words),
@@ -169,6 +173,7 @@ pub fn pointer(image: &[u8]) -> Answer<Pointer> {
 }
 
 /// The directory of a level.
+#[inline]
 pub fn directory(image: &[u8], level: u32) -> Answer<Directory> {
     answer_of(
         |words: &mut [u64; 3]| directory_into(image, level, words),
@@ -181,6 +186,7 @@ pub fn directory(image: &[u8], level: u32) -> Answer<Directory> {
 }
 
 /// An entry of the directory of a level.
+#[inline]
 pub fn entry(image: &[u8], level: u32, index: usize) -> Answer<Entry> {
     answer_of(
         |words| entry_into(image, level, index, words),
@@ -189,6 +195,7 @@ pub fn entry(image: &[u8], level: u32, index: usize) -> Answer<Entry> {
 }
 
 /// Where the bytes of an entry of the directory of a level lie.
+#[inline]
 pub fn part(image: &[u8], level: u32, index: usize) -> Answer<Part> {
     answer_of(
         |words| part_into(image, level, index, words),
@@ -197,6 +204,7 @@ pub fn part(image: &[u8], level: u32, index: usize) -> Answer<Part> {
 }
 
 /// The first entry of a type and subprogram in the directory of a level.
+#[inline]
 pub fn find(image: &[u8], level: u32, class: u8, subprogram: u8) -> Answer<Match> {
     lookup_of(
         |words: &mut [u64; 2]| find_into(image, level, class, subprogram, words),
@@ -205,6 +213,7 @@ pub fn find(image: &[u8], level: u32, class: u8, subprogram: u8) -> Answer<Match
 }
 
 /// The first entry of a type and subprogram in the whole image, as level one leads through it.
+#[inline]
 pub fn find_image(image: &[u8], class: u8, subprogram: u8) -> Answer<ImageMatch> {
     lookup_of(
         |words: &mut [u64; 4]| find_image_into(image, class, subprogram, words),
@@ -219,16 +228,19 @@ pub fn find_image(image: &[u8], class: u8, subprogram: u8) -> Answer<ImageMatch>
 
 // The exported calls, with the words as a caller lends them.
 
+#[inline]
 fn efs_into(image: &[u8], words: &mut [u64]) -> u64 {
     // SAFETY: lent slices, as the crate's page says.
     unsafe { kpalumere_efs(image.as_ptr(), image.len(), words.as_mut_ptr(), words.len()) }
 }
 
+#[inline]
 fn pointer_into(image: &[u8], words: &mut [u64]) -> u64 {
     // SAFETY: lent slices, as the crate's page says.
     unsafe { kpalumere_pointer(image.as_ptr(), image.len(), words.as_mut_ptr(), words.len()) }
 }
 
+#[inline]
 fn directory_into(image: &[u8], level: u32, words: &mut [u64]) -> u64 {
     // SAFETY: lent slices, as the crate's page says.
     unsafe {
@@ -242,6 +254,7 @@ fn directory_into(image: &[u8], level: u32, words: &mut [u64]) -> u64 {
     }
 }
 
+#[inline]
 fn entry_into(image: &[u8], level: u32, index: usize, words: &mut [u64]) -> u64 {
     // SAFETY: lent slices, as the crate's page says.
     unsafe {
@@ -256,6 +269,7 @@ fn entry_into(image: &[u8], level: u32, index: usize, words: &mut [u64]) -> u64 
     }
 }
 
+#[inline]
 fn part_into(image: &[u8], level: u32, index: usize, words: &mut [u64]) -> u64 {
     // SAFETY: lent slices, as the crate's page says.
     unsafe {
@@ -270,6 +284,7 @@ fn part_into(image: &[u8], level: u32, index: usize, words: &mut [u64]) -> u64 {
     }
 }
 
+#[inline]
 fn find_into(image: &[u8], level: u32, class: u8, subprogram: u8, words: &mut [u64]) -> u64 {
     // SAFETY: lent slices, as the crate's page says.
     unsafe {
@@ -285,6 +300,7 @@ fn find_into(image: &[u8], level: u32, class: u8, subprogram: u8, words: &mut [u
     }
 }
 
+#[inline]
 fn find_image_into(image: &[u8], class: u8, subprogram: u8, words: &mut [u64]) -> u64 {
     // SAFETY: lent slices, as the crate's page says.
     unsafe {

@@ -47,12 +47,14 @@ pub struct Guid(pub [u8; 16]);
 
 impl Guid {
     /// The two numbers that stand for it at the boundary: its first eight bytes and its last, read from the lowest on.
+    #[inline]
     fn halves(&self) -> (u64, u64) {
         let number = u128::from_le_bytes(self.0);
         (number as u64, (number >> 64) as u64)
     }
 
     /// The GUID that two numbers stand for.
+    #[inline]
     fn of_halves(low: u64, high: u64) -> Guid {
         Guid((u128::from(high) << 64 | u128::from(low)).to_le_bytes())
     }
@@ -82,6 +84,7 @@ pub struct GuidMatch {
 }
 
 /// The table, all of it checked.
+#[inline]
 pub fn guids(image: &[u8]) -> Answer<GuidTable> {
     answer_of(
         |words: &mut [u64; 2]| guids_into(image, words),
@@ -90,6 +93,7 @@ pub fn guids(image: &[u8]) -> Answer<GuidTable> {
 }
 
 /// The entry nearest the footer that has the GUID.
+#[inline]
 pub fn guid_find(image: &[u8], guid: &Guid) -> Answer<GuidMatch> {
     lookup_of(
         |words: &mut [u64; 3]| guid_find_into(image, guid, words),
@@ -102,6 +106,7 @@ pub fn guid_find(image: &[u8], guid: &Guid) -> Answer<GuidMatch> {
 }
 
 /// An entry by its index, counted from the footer.
+#[inline]
 pub fn guid_entry(image: &[u8], index: usize) -> Answer<GuidEntry> {
     answer_of(
         |words: &mut [u64; 4]| guid_entry_into(image, index, words),
@@ -114,12 +119,14 @@ pub fn guid_entry(image: &[u8], index: usize) -> Answer<GuidEntry> {
 }
 
 /// Writes a table with no entries at the buffer's end.
+#[inline]
 pub fn guid_start(buffer: &mut [u8]) -> Answer<()> {
     // SAFETY: a lent slice, as the crate's page says.
     done_by(unsafe { kpalumere_guid_start(buffer.as_mut_ptr(), buffer.len()) })
 }
 
 /// Adds an entry to the table, farthest from the footer, and answers the new total.
+#[inline]
 pub fn guid_extend(buffer: &mut [u8], guid: &Guid, data: &[u8]) -> Answer<u64> {
     answer_of(
         |words: &mut [u64; 1]| guid_extend_into(buffer, guid, data, words),
@@ -129,11 +136,13 @@ pub fn guid_extend(buffer: &mut [u8], guid: &Guid, data: &[u8]) -> Answer<u64> {
 
 // The exported calls, with the words as a caller lends them.
 
+#[inline]
 fn guids_into(image: &[u8], words: &mut [u64]) -> u64 {
     // SAFETY: lent slices, as the crate's page says.
     unsafe { kpalumere_guids(image.as_ptr(), image.len(), words.as_mut_ptr(), words.len()) }
 }
 
+#[inline]
 fn guid_find_into(image: &[u8], guid: &Guid, words: &mut [u64]) -> u64 {
     let (low, high) = guid.halves();
     // SAFETY: lent slices, as the crate's page says.
@@ -149,6 +158,7 @@ fn guid_find_into(image: &[u8], guid: &Guid, words: &mut [u64]) -> u64 {
     }
 }
 
+#[inline]
 fn guid_entry_into(image: &[u8], index: usize, words: &mut [u64]) -> u64 {
     // SAFETY: lent slices, as the crate's page says.
     unsafe {
@@ -162,6 +172,7 @@ fn guid_entry_into(image: &[u8], index: usize, words: &mut [u64]) -> u64 {
     }
 }
 
+#[inline]
 fn guid_extend_into(buffer: &mut [u8], guid: &Guid, data: &[u8], words: &mut [u64]) -> u64 {
     let (low, high) = guid.halves();
     // SAFETY: lent slices, as the crate's page says.

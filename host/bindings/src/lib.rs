@@ -6,6 +6,8 @@
 //!
 //! Why the calls are safe: a slice of Rust is aligned, not null and as long as it says, and a mutable one overlaps no
 //! other. That is all that the library asks of its callers. It is proved to read and write nothing else.
+//!
+//! Each of them is a few instructions around a call, so they are marked `#[inline]`: across crates Rust inlines only what is.
 
 mod answer;
 mod aspt;

@@ -122,6 +122,7 @@ pub struct Interrupt {
 
 impl Mailbox {
     /// A fresh mailbox before fresh firmware.
+    #[inline]
     pub fn fresh() -> Mailbox {
         let mut words = [0; ALL];
         let number = fresh_into(&mut words);
@@ -146,26 +147,31 @@ impl Mailbox {
     }
 
     /// A caller's command with its data joins the line.
+    #[inline]
     pub fn post(&mut self, caller: u32, command: u32, data: u16) -> Answer<()> {
         done_by(post_into(&mut self.words, &mut [], caller, command, data))
     }
 
     /// The oldest post enters an idle register. Answers whether it did.
+    #[inline]
     pub fn load(&mut self) -> Answer<bool> {
         self.step(kpalumere_load)
     }
 
     /// A command in the register becomes its response. Answers whether it did.
+    #[inline]
     pub fn turn(&mut self) -> Answer<bool> {
         self.step(kpalumere_turn)
     }
 
     /// A response goes to its caller's place. Answers whether it did.
+    #[inline]
     pub fn unload(&mut self) -> Answer<bool> {
         self.step(kpalumere_unload)
     }
 
     /// A caller takes its word.
+    #[inline]
     pub fn take(&mut self, caller: u32) -> Answer<u64> {
         answer_of(
             |values: &mut [u64; 1]| take_into(&mut self.words, values, caller),
@@ -183,6 +189,7 @@ impl Mailbox {
         }
     }
 
+    #[inline]
     fn step(&mut self, call: Step) -> Answer<bool> {
         answer_of(
             |values: &mut [u64; 1]| step_into(call, &mut self.words, values),
@@ -230,11 +237,13 @@ type Step = unsafe extern "C" fn(*mut u64, usize, *mut u64, usize) -> u64;
 
 // The exported calls, with the words as a caller lends them.
 
+#[inline]
 fn fresh_into(words: &mut [u64]) -> u64 {
     // SAFETY: a lent slice, as the crate's page says.
     unsafe { kpalumere_mailbox_fresh(words.as_mut_ptr(), words.len()) }
 }
 
+#[inline]
 fn post_into(words: &mut [u64], values: &mut [u64], caller: u32, command: u32, data: u16) -> u64 {
     // SAFETY: lent slices, as the crate's page says.
     unsafe {
@@ -250,6 +259,7 @@ fn post_into(words: &mut [u64], values: &mut [u64], caller: u32, command: u32, d
     }
 }
 
+#[inline]
 fn step_into(call: Step, words: &mut [u64], values: &mut [u64]) -> u64 {
     // SAFETY: `call` is one of the exported calls; lent slices, as the crate's page says.
     unsafe {
@@ -262,6 +272,7 @@ fn step_into(call: Step, words: &mut [u64], values: &mut [u64]) -> u64 {
     }
 }
 
+#[inline]
 fn take_into(words: &mut [u64], values: &mut [u64], caller: u32) -> u64 {
     // SAFETY: lent slices, as the crate's page says.
     unsafe {

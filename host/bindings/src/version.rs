@@ -13,6 +13,7 @@ extern "C" {
 
 /// The version of a firmware binary, by its header. People are shown its bytes from the highest on: 0x00080174 is
 /// 00.08.01.74.
+#[inline]
 pub fn version(bytes: &[u8]) -> Answer<u64> {
     answer_of(
         |words: &mut [u64; 1]| version_into(bytes, words),
@@ -21,6 +22,7 @@ pub fn version(bytes: &[u8]) -> Answer<u64> {
 }
 
 /// The exported call, with the words as a caller lends them.
+#[inline]
 fn version_into(bytes: &[u8], words: &mut [u64]) -> u64 {
     // SAFETY: lent slices, as the crate's page says.
     unsafe { kpalumere_version(bytes.as_ptr(), bytes.len(), words.as_mut_ptr(), words.len()) }

@@ -32,6 +32,7 @@ extern "C" {
 }
 
 /// The place that a view of the directory of a level holds.
+#[inline]
 pub fn view(image: &[u8], level: u32) -> Answer<u64> {
     answer_of(
         |words: &mut [u64; 1]| view_into(image, level, words),
@@ -40,6 +41,7 @@ pub fn view(image: &[u8], level: u32) -> Answer<u64> {
 }
 
 /// An entry, from a view that holds the image and the place.
+#[inline]
 pub fn view_entry(image: &[u8], place: usize, index: usize) -> Answer<Entry> {
     answer_of(
         |words| view_entry_into(image, place, index, words),
@@ -48,6 +50,7 @@ pub fn view_entry(image: &[u8], place: usize, index: usize) -> Answer<Entry> {
 }
 
 /// Where the bytes of an entry lie, from a view that holds the image and the place.
+#[inline]
 pub fn view_part(image: &[u8], place: usize, index: usize) -> Answer<Part> {
     answer_of(
         |words| view_part_into(image, place, index, words),
@@ -57,6 +60,7 @@ pub fn view_part(image: &[u8], place: usize, index: usize) -> Answer<Part> {
 
 // The exported calls, with the words as a caller lends them.
 
+#[inline]
 fn view_into(image: &[u8], level: u32, words: &mut [u64]) -> u64 {
     // SAFETY: lent slices, as the crate's page says.
     unsafe {
@@ -70,6 +74,7 @@ fn view_into(image: &[u8], level: u32, words: &mut [u64]) -> u64 {
     }
 }
 
+#[inline]
 fn view_entry_into(image: &[u8], place: usize, index: usize, words: &mut [u64]) -> u64 {
     // SAFETY: lent slices, as the crate's page says.
     unsafe {
@@ -84,6 +89,7 @@ fn view_entry_into(image: &[u8], place: usize, index: usize, words: &mut [u64]) 
     }
 }
 
+#[inline]
 fn view_part_into(image: &[u8], place: usize, index: usize, words: &mut [u64]) -> u64 {
     // SAFETY: lent slices, as the crate's page says.
     unsafe {
