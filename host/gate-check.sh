@@ -124,4 +124,51 @@ names_lost_change() {
 }
 expect 'a change that can no longer be made is named' names_lost_change
 
+# The page of the benchmarks, and counts of instructions, both made up.
+# shellcheck source=host/bench/instructions.sh
+. "$own/bench/instructions.sh"
+write_page_and_counts() {
+    cat >"$root/page.md" <<'END'
+## Instructions
+
+| Row | n | library | second program | plain C | library / C | library / second |
+|---|---:|---:|---:|---:|---:|---:|
+| first row | 64 | 100 | 50 | 200 | 0.50 | 2.00 |
+| second row | 1 | 300 | 50 | 150 | 2.00 | 6.00 |
+
+## Growth
+
+| third row | 8 | 100 | 50 | 200 | 0.50 | 2.00 |
+END
+    printf '%s\t%d\t%d\t%d\n' 'first row' 64 100 200 'second row' 1 300 150 >"$root/counted"
+}
+
+# The counts, held to the page, come to this, and these words are printed.
+held() { # PASSED FAILED WORDS
+    printed=$(hold_to_page "$root/counted" "$root/page.md")
+    status=$?
+    last=$(tail -n 1 <<<"$printed")
+    ended_with "$1" "$2" && { grep -qF -- "$3" <<<"$printed" || { printf '%s\n' "$printed"; false; }; }
+}
+
+write_page_and_counts
+expect 'instructions as the page has them pass' held 2 0 'first row with n = 64: library / C is 0.50 (100 / 200)'
+put counted 100 110
+expect 'a tenth above the page passes' held 2 0 'is 0.55 (110 / 200), on the page 0.50 (100 / 200)'
+put counted 110 111
+expect 'more than a tenth above the page fails' held 1 1 'FAILED: first row with n = 64'
+put counted 111 89
+expect 'more than a tenth below the page passes, and the page is out of date' held 2 0 'which is out of date'
+put counted 89 ''
+expect 'a row that was not counted fails' held 1 1 'first row with n = 64: not counted'
+write_page_and_counts
+put page.md '300 | 50 | 150 | 2.00' '150 | 50 | 150 | 1.00'
+expect 'half of a ratio on the page fails' held 1 1 'FAILED: second row with n = 1: library / C is 2.00'
+put page.md '150 | 50 | 150 | 1.00' '300 | 50 | 150 | 1.00'
+expect 'a ratio that is not the quotient of its counts fails' held 1 1 'second row: docs/BENCHMARKS.md has 1.00 for 300 / 150'
+write_page_and_counts
+put page.md 'second row' 'another row'
+expect 'a row that the page lacks and one that only the page has are two failures' held 1 2 'second row: the table of instructions'
+expect 'the row that only the page has is named' held 1 2 'FAILED: another row: docs/BENCHMARKS.md has this row'
+
 expected

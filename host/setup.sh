@@ -2,10 +2,12 @@
 # shellcheck shell=bash disable=SC2034,SC2154
 # It is sourced, by a script that has set `root` to the repository's folder. It changes nothing until a function is called.
 
-# The library is for x86-64, so the host is too; on another processor its programs run under an emulator.
+# The library is for x86-64, so the host is too; on another processor its programs run under an emulator. Instructions are
+# counted under it on every processor.
 machine=$(uname -m)
 rust_target=x86_64-unknown-linux-gnu
 if [ "$machine" = x86_64 ]; then emulator=; else emulator=/usr/bin/qemu-x86_64; fi
+instruction_counter=${emulator:-qemu-x86_64}
 
 say() { printf '%s: %s\n' "${0##*/}" "$*" >&2; }
 
@@ -58,8 +60,8 @@ has_rust_library() {
     compgen -G "$folder/libstd-*.rlib" >/dev/null
 }
 
-# Prints the Debian packages that hold what the machine lacks. Only the tests need the formatter, the OVMF images, and Python,
-# which reads the JSON and CSV that the tool writes.
+# Prints the Debian packages that hold what the machine lacks. Only the tests need the formatter, the OVMF images, Python, which
+# reads the JSON and CSV that the tool writes, and on x86-64 the emulator, which counts instructions.
 missing_packages() { # tool | tests
     works "$rustc" || echo rustc
     works "$cargo" || echo cargo
@@ -70,6 +72,7 @@ missing_packages() { # tool | tests
     fi
     if [ "$machine" = x86_64 ]; then
         can_link_c || printf '%s\n' gcc libc6-dev
+        [ "$1" != tests ] || works "$instruction_counter" || echo qemu-user
     else
         works "$emulator" || echo qemu-user
         can_link_c || printf '%s\n' gcc-x86-64-linux-gnu libc6-dev:amd64

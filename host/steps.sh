@@ -147,3 +147,11 @@ check_benchmarks() {
     # shellcheck disable=SC2086
     $emulator "$root/host/target/$rust_target/release/bench" --quick
 }
+
+# The library takes at most a tenth more instructions beside plain C than docs/BENCHMARKS.md says. Times decide nothing.
+check_instructions() {
+    local counted=$root/host/target/counted-instructions
+    choose_compilers
+    count_rows_of_page "$root/host/target/$rust_target/release/bench" "$root/docs/BENCHMARKS.md" >"$counted" || return
+    hold_to_page "$counted" "$root/docs/BENCHMARKS.md"
+}
