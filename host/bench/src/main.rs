@@ -4,18 +4,20 @@ use bench::measure::{check, measure, Rounds};
 use bench::memory::{self, WAYS};
 use bench::report;
 use bench::rows::{row_named, Row, PROGRAMS, ROWS};
+use bench::stack;
 use std::process::ExitCode;
 
 const HELP: &str = "\
 bench: the proved library beside the second program and a plain reading of document 01 in C, doing the same work in turn.
 
-  bench [--rounds N] [--row NAME]...   three tables: times and their ratios, growth, memory
+  bench [--rounds N] [--row NAME]...   four tables: memory, stack, times and their ratios, growth
+  bench --stack                        the table of stack alone: how much each call of the library takes at its deepest
   bench --quick                        no times: every row once, to see that the three give the same answers
   bench --list                         for each row its name, a small n, and what is done
   bench --repeat NAME N PROGRAM TIMES  the work of one program, from 0 to 2, so many times, with nothing else
 
   --rounds N    how often each program is measured (21 where it is not given)
-  --row NAME    a row to measure (all of them, and the memory, where none is named)
+  --row NAME    a row to measure (all of them, the memory and the stack, where none is named)
 
 The status is 0 where the three agree, 1 where they do not, 2 for a wrong word.";
 
@@ -25,6 +27,7 @@ enum Wanted {
         rounds: usize,
         rows: Vec<&'static Row>,
     },
+    Stack,
     Quick,
     List,
     Repeat {
@@ -43,6 +46,7 @@ fn main() -> ExitCode {
     }
     let done = match wanted(&words) {
         Ok(Wanted::Tables { rounds, rows }) => tables(rounds, &rows),
+        Ok(Wanted::Stack) => stack_table(),
         Ok(Wanted::Quick) => return quick(),
         Ok(Wanted::List) => {
             list();
@@ -78,6 +82,7 @@ fn main() -> ExitCode {
 fn wanted(words: &[String]) -> Result<Wanted, String> {
     let words: Vec<&str> = words.iter().map(String::as_str).collect();
     match words[..] {
+        ["--stack"] => return Ok(Wanted::Stack),
         ["--quick"] => return Ok(Wanted::Quick),
         ["--list"] => return Ok(Wanted::List),
         ["--repeat", name, n, program, times] => {
@@ -146,7 +151,7 @@ fn quick() -> ExitCode {
     ExitCode::from(u8::from(failed > 0))
 }
 
-/// The tables of the rows named, or of all rows and the memory.
+/// The tables of the rows named, or of all rows, the memory and the stack.
 fn tables(rounds: usize, named: &[&'static Row]) -> Result<(), String> {
     let all: Vec<&Row> = ROWS.iter().collect();
     let rows = if named.is_empty() { &all } else { named };
@@ -156,6 +161,8 @@ fn tables(rounds: usize, named: &[&'static Row]) -> Result<(), String> {
         for way in WAYS {
             println!("{}", report::memory_line(way, &memory::measure(way)?));
         }
+        println!();
+        stack_table()?;
         println!();
     }
     println!("{}", report::times_head());
@@ -170,6 +177,15 @@ fn tables(rounds: usize, named: &[&'static Row]) -> Result<(), String> {
             .map(|n| Ok((*n, measured(row, *n, rounds)?)))
             .collect();
         println!("{}", report::growth_line(row, &all?));
+    }
+    Ok(())
+}
+
+fn stack_table() -> Result<(), String> {
+    let depths = stack::measure()?;
+    println!("{}", report::stack_head());
+    for depth in &depths {
+        println!("{}", report::stack_line(depth));
     }
     Ok(())
 }
@@ -207,6 +223,7 @@ mod tests {
             }) => assert_eq!((row.name, n, program, times), ("extend", 8, 2, 5)),
             _ => panic!("these words ask to repeat a row's work"),
         }
+        assert!(matches!(wanted_by("--stack"), Ok(Wanted::Stack)));
         assert!(matches!(wanted_by("--quick"), Ok(Wanted::Quick)));
         assert!(matches!(wanted_by("--list"), Ok(Wanted::List)));
     }
@@ -219,6 +236,7 @@ mod tests {
             "--rounds 0",
             "--row none",
             "--quick --list",
+            "--stack --rounds 3",
             "--repeat checksum 8 3 1",
             "--repeat checksum 8",
             "7",

@@ -3,6 +3,7 @@
 use crate::measure::{Quartiles, Rounds};
 use crate::memory::{Peaks, Way};
 use crate::rows::{Row, PROGRAMS};
+use crate::stack::Depth;
 
 /// The places of the programs in a row.
 const LIBRARY: usize = 0;
@@ -73,6 +74,19 @@ pub fn memory_line(way: &Way, peaks: &Peaks) -> String {
     format!(
         "| {} | {} KiB | {} KiB | {} KiB | {} KiB | {image} KiB | {memory} KiB |",
         way.name, peaks.lengths[0], peaks.peaks[0], peaks.lengths[1], peaks.peaks[1]
+    )
+}
+
+/// The head of the table of stack.
+pub fn stack_head() -> String {
+    "| Call | given | stack |\n|---|---|---:|".into()
+}
+
+/// A line of the table of stack.
+pub fn stack_line(depth: &Depth) -> String {
+    format!(
+        "| `{}` | {} | {} bytes |",
+        depth.call, depth.given, depth.bytes
     )
 }
 

@@ -294,7 +294,7 @@ fn extend<P: Program>(entries: usize) -> Work {
 }
 
 /// The command words that the rounds go through: all commands, and each way in which delivery may be refused or set.
-const COMMANDS: [u32; 12] = [
+pub(crate) const COMMANDS: [u32; 12] = [
     0x0081_0000,
     0x0085_0401,
     0x0080_0000,
