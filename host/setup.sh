@@ -61,7 +61,7 @@ has_rust_library() {
 }
 
 # Prints the Debian packages that hold what the machine lacks. Only the tests need the formatter, the OVMF images, Python, which
-# reads the JSON and CSV that the tool writes, and on x86-64 the emulator, which counts instructions.
+# reads the JSON and CSV that the tool writes, and what counts instructions: the emulator, and a compiler for its plugin.
 missing_packages() { # tool | tests
     works "$rustc" || echo rustc
     works "$cargo" || echo cargo
@@ -75,6 +75,7 @@ missing_packages() { # tool | tests
         [ "$1" != tests ] || works "$instruction_counter" || echo qemu-user
     else
         works "$emulator" || echo qemu-user
+        [ "$1" != tests ] || works cc || printf '%s\n' gcc libc6-dev
         can_link_c || printf '%s\n' gcc-x86-64-linux-gnu libc6-dev:amd64
         has_rust_library || echo libstd-rust-dev:amd64
     fi
