@@ -13,12 +13,11 @@ use Rattle.le.specs.Le.{leAt}
 use Rattle.reply.specs.Reply.{Reply, Carried, alone, given, refused, then}
 use Rattle.reply.specs.Scan.{scan}
 use Rattle.reply.proofs.ReplyLaws.{clash, past, passed, failed, then-given, then-same}
-use Rattle.reply.proofs.ScanLaws.{scan-start}
 use Rattle.guids.specs.declared.Guid.{Guid}
 use Rattle.guids.specs.declared.Entry.{Entry}
 use Rattle.guids.specs.declared.Match.{Match}
 use Rattle.guids.specs.declared.Totals.{Totals}
-use Rattle.guids.specs.Table.{footer, guidAt, sameGuid, totalAt, headerOf, lengthBefore, entryBefore, entriesIn, entriesBefore, entriesUnder, entriesOf, totalsOf, tableOf, noEntry, findStep, nowhere, findIn, findOf, pickIn, entryOf}
+use Rattle.guids.specs.Table.{footer, guidAt, sameGuid, totalAt, headerOf, lengthBefore, entryBefore, entriesIn, entriesBefore, entriesUnder, entriesOf, totalsOf, tableOf, noEntry, findStep, nowhere, findIn, pickIn, entryOf}
 
 -- the footer's halves, as the code has them
 pub footer-is : record { low = 0x45f7_1fb2_96b5_82de; high = 0x2d08_5ac5_66a3_eaba } ≡ footer
@@ -98,27 +97,69 @@ module _ (s : List ℕ) (e left : ℕ) (some : 0 < left) where
   pub walk-stop : (w : ℕ) (c : Carried) → lengthBefore s e left ≡ refused w c → entriesBefore s e left ≡ refused w c
   walk-stop w c h = walk-on ∙ rw h
 
--- the table's totals, where `count` entries were counted before these
-abbrev pub totalsFrom : List ℕ → ℕ → List Entry → Reply Totals
-totalsFrom s count es = given (record { total = totalAt s; entries = count + length es })
+-- a walk in the middle, whose answer is r: `next` makes it of the entries that are not yet seen
+module _ {B : Type 0} (s : List ℕ) (e left : ℕ) (next : List Entry → Reply B) (r : Reply B) (inv : then (entriesBefore s e left) next ≡ r) where
+  pub seen-all : left ≡ 0 → next [] ≡ r
+  seen-all z = rw (walk-end s e left z) at inv
 
-pub count-start : (s : List ℕ) (r : Reply (List Entry)) → then r (totalsFrom s 0) ≡ then r (totalsOf s)
-count-start s r = then-same r (totalsFrom s 0) (totalsOf s) (λ es e. rw zero-add)
+  pub seen-refused : 0 < left → (w : ℕ) (c : Carried) → lengthBefore s e left ≡ refused w c → refused w c ≡ r
+  seen-refused some w c h = rw (walk-stop s e left some w c h) at inv
 
--- a count in the middle of a walk whose totals are r
-module _ (s : List ℕ) (e left count : ℕ) (r : Reply Totals) (inv : then (entriesBefore s e left) (totalsFrom s count) ≡ r) where
-  pub count-end : left ≡ 0 → given (record { total = totalAt s; entries = count }) ≡ r
-  count-end z = rw (walk-end s e left z, add-zero) at inv
-
-  pub count-stop : 0 < left → (w : ℕ) (c : Carried) → lengthBefore s e left ≡ refused w c → refused w c ≡ r
-  count-stop some w c h = rw (walk-stop s e left some w c h) at inv
-
-  pub count-pass : 0 < left → (n : ℕ) → lengthBefore s e left ≡ given n → then (entriesBefore s (e - n) (left - n)) (totalsFrom s (count + 1)) ≡ r
-  count-pass some n h = by (entriesBefore s (e - n) (left - n)) ∙ (rw (walk-step s e left some n h) at inv)
+  -- the entry that ends here is seen, and `more` makes the answer of those behind it
+  pub seen-one : 0 < left → (n : ℕ) → lengthBefore s e left ≡ given n → (more : List Entry → Reply B) →
+      ((es : List Entry) → more es ≡ next (entryBefore s e n ∷ es)) → then (entriesBefore s (e - n) (left - n)) more ≡ r
+  seen-one some n h more same = by (entriesBefore s (e - n) (left - n)) ∙ (rw (walk-step s e left some n h) at inv)
     where
-      by : (q : Reply (List Entry)) → then q (totalsFrom s (count + 1)) ≡ then (then q (withEntry (entryBefore s e n))) (totalsFrom s count)
-      by (given es) = ap (λ (k : ℕ). given (record { total = totalAt s; entries = k })) (omega arith)
+      by : (q : Reply (List Entry)) → then q more ≡ then (then q (withEntry (entryBefore s e n))) next
+      by (given es) = same es
       by (refused number carried) = refl
+
+-- a step that refuses nothing tells what another one answers in its place
+module _ {A B C : Type 0} where
+  pub given-too : (r : Reply A) (f : A → C) (next : A → Reply B) (m : C) (b : B) → then r (λ a. given (f a)) ≡ given m → ((a : A) → f a ≡ m → next a ≡ given b) → given b ≡ then r next
+  given-too (given a) f next m b e same = sym (same a (cc e))
+  given-too (refused number carried) f next m b e same = clash e
+
+  pub refused-too : (r : Reply A) (f : A → C) (next : A → Reply B) (w : ℕ) (c : Carried) → then r (λ a. given (f a)) ≡ refused w c → refused w c ≡ then r next
+  refused-too (given a) f next w c e = clash (sym e)
+  refused-too (refused v d) f next w c e = let a : v ≡ w = cc in let b : d ≡ c = cc in rw (a, b)
+
+-- the number of entries, where `count` were counted before these
+abbrev pub countFrom : ℕ → List Entry → Reply ℕ
+countFrom count es = given (count + length es)
+
+pub count-start : (r : Reply (List Entry)) → then r (countFrom 0) ≡ then r (λ es. given (length es))
+count-start r = then-same r (countFrom 0) (λ es. given (length es)) (λ es e. rw zero-add)
+
+-- the first of these entries that has the GUID, where so many were tested before them
+unfoldable pub findFrom : Guid → ℕ → List Entry → Reply Match
+findFrom g before [] = nowhere before
+findFrom g before (x ∷ es) = cond (sameGuid (x .guid) g) (given (record { place = x .place; length = x .length; tested = before + 1 })) (findFrom g (before + 1) es)
+
+-- these are the entries from index i on
+find-scan : (g : Guid) (entries es : List Entry) (i : ℕ) → ((k : ℕ) → getD es k noEntry ≡ getD entries (i + k) noEntry) → findFrom g i es ≡ scan (findStep g entries) nowhere (length es) i
+unfolding findFrom scan
+find-scan g entries [] i same = refl
+find-scan g entries (x ∷ es) i same =
+    let here : x ≡ getD entries i noEntry = same 0 ∙ ap (λ (j : ℕ). getD entries j noEntry) (add-zero i) in
+    let behind = find-scan g entries es (i + 1) (λ k. same (suc k) ∙ ap (λ (j : ℕ). getD entries j noEntry) (omega arith)) in
+    rw (← here, behind)
+
+pub find-start : (g : Guid) (r : Reply (List Entry)) → then r (findFrom g 0) ≡ then r (findIn g)
+find-start g r = then-same r (findFrom g 0) (findIn g) (λ es e. find-scan g es es 0 (λ k. ap (λ (j : ℕ). getD es j noEntry) (sym (zero-add k))))
+
+pub find-end : (g : Guid) (before : ℕ) → nowhere before ≡ findFrom g before []
+unfolding findFrom
+find-end g before = refl
+
+module _ (g : Guid) (before : ℕ) (x : Entry) (es : List Entry) where
+  pub find-here : sameGuid (x .guid) g ≡ true → given (record { place = x .place; length = x .length; tested = before + 1 }) ≡ findFrom g before (x ∷ es)
+  unfolding findFrom
+  find-here h = rw h
+
+  pub find-behind : sameGuid (x .guid) g ≡ false → findFrom g (before + 1) es ≡ findFrom g before (x ∷ es)
+  unfolding findFrom
+  find-behind h = rw h
 
 -- what the walk gives, as plain facts: these entries fill the `left` bytes that end at place e
 pub data Entries (s : List ℕ) : ℕ → ℕ → List Entry → Type 0 where
@@ -206,28 +247,12 @@ good-table s t h =
 
 -- what a refused table refuses besides
 pub table-refused : {B : Type 0} (s : List ℕ) (next : List Entry → Reply B) (w : ℕ) (c : Carried) → tableOf s ≡ refused w c → refused w c ≡ then (entriesOf s) next
-table-refused {B} s next w c h = by (entriesOf s) h
-  where
-    by : (r : Reply (List Entry)) → then r (totalsOf s) ≡ refused w c → _≡_ {A = Reply B} (refused w c) (then r next)
-    by (given es) e = clash (sym e)
-    by (refused v d) e = let a : v ≡ w = cc in let b : d ≡ c = cc in rw (a, b)
+table-refused s next w c h = refused-too (entriesOf s) (λ es. record { total = totalAt s; entries = length es }) next w c h
 
 module _ (s : List ℕ) (t : Totals) (good : Good s t) where
   -- what follows the check of a good table works on its entries
   pub table-given : {B : Type 0} (next : List Entry → Reply B) → next (listOf s) ≡ then (entriesOf s) next
   table-given next = sym (rw (good .entries) refl)
-
-  -- a search for a GUID, as the loop has it
-  module _ (g : Guid) where
-    pub find-start : scan (findStep g (listOf s)) nowhere (t .entries - 0) 0 ≡ findOf s g
-    find-start = scan-start (findStep g (listOf s)) nowhere (t .entries) ∙ ap (λ (n : ℕ). scan (findStep g (listOf s)) nowhere n 0) (sym (good .number)) ∙ table-given (findIn g)
-
-    module _ (i : ℕ) (x : Entry) (is : x ≡ getD (listOf s) i noEntry) (rest : Reply Match) where
-      pub find-here : sameGuid (x .guid) g ≡ true → findStep g (listOf s) i rest ≡ given (record { place = x .place; length = x .length; tested = i + 1 })
-      find-here h = rw (← is, h)
-
-      pub find-behind : sameGuid (x .guid) g ≡ false → findStep g (listOf s) i rest ≡ rest
-      find-behind h = rw (← is, h)
 
   pub pick-none : (i : ℕ) → t .entries ≤ i → refused 8 alone ≡ entryOf s i
   pick-none i h = sym (failed _ _ _ _ (le-ltb i (length (listOf s)) (rw (good .number) h))) ∙ table-given (pickIn i)

@@ -1,10 +1,10 @@
 // The GUID table at the end of a guest firmware image: read, looked up, started and extended.
 ghost use mathlib.Core.Path.{_≡_};
-ghost use Prim.Native.Nat.{_+_, _-_, _<_, _≤_};
+ghost use Prim.Native.Nat.{_+_, _-_, _^_, _<_, _≤_};
 ghost use lib.ListN.{length};
 ghost use Rattle.reply.specs.Reply.{given, then};
 ghost use Rattle.le.specs.Le.{leAt, putBytes};
-ghost use Rattle.guids.specs.Table.{guidAt, sameGuid, footer, headerOf, lengthBefore, entryBefore, entriesUnder, totalsOf, tableOf, findOf, entryOf, toldTotal, toldTable, toldLookup, toldEntry};
+ghost use Rattle.guids.specs.Table.{guidAt, sameGuid, footer, headerOf, lengthBefore, entryBefore, entriesBefore, entriesUnder, totalsOf, tableOf, findIn, findOf, entryOf, toldTotal, toldTable, toldLookup, toldEntry};
 ghost use Rattle.guids.specs.Write.{endBytes, startOf, startedBy, allZero, roomFor, extendOf, extendedBy};
 use reply::Refusal;
 
@@ -73,17 +73,18 @@ fn guid_at(image: &[u8], at: usize) -> Guid
     ensures { λ r. ⌜ r ≡ guidAt (now (image .entry)) at ⌝ }
 {
     Guid {
-        low: le::u64_at(image, at),
-        high: le::u64_at(image, at + 8),
+        low: le::u64_at(&image[at..at + 8], 0),
+        high: le::u64_at(&image[at + 8..at + 16], 0),
     }
 }
 
-// Are two GUIDs the same?
-fn same(a: Guid, b: Guid) -> bool
-    ensures { λ r. ⌜ r ≡ sameGuid a b ⌝ }
+// Is the GUID at a place this one? Most differ in the low half, so the high half is read only where the low ones are the same.
+fn has_guid(image: &[u8], at: usize, guid: Guid) -> bool
+    requires { ⌜ at + 16 ≤ length (now image) ⌝ }
+    ensures { λ r. ⌜ r ≡ sameGuid (guidAt (now (image .entry)) at) guid ⌝ }
 {
-    if a.low == b.low {
-        a.high == b.high
+    if le::u64_at(&image[at..at + 8], 0) == guid.low {
+        le::u64_at(&image[at + 8..at + 16], 0) == guid.high
     } else {
         false
     }
@@ -96,7 +97,7 @@ fn header(image: &[u8]) -> Total
     if image.len() < 50 {
         return Total::Refused(Refusal::SHORT);
     }
-    if same(guid_at(image, image.len() - 48), Guid::FOOTER) {
+    if has_guid(image, image.len() - 48, Guid::FOOTER) {
         let total = le::u16_at(image, image.len() - 50);
         if total < 18 {
             return Total::Refused(Refusal::LIMITS);
@@ -112,13 +113,13 @@ fn header(image: &[u8]) -> Total
 
 // The length of the entry that ends at a place, where `left` bytes are left.
 fn length_before(image: &[u8], end: usize, left: usize) -> Total
-    requires { ⌜ left ≤ end ⌝ }
+    requires { ⌜ (left ≤ end) × (end ≤ length (now image)) ⌝ }
     ensures { λ r. ⌜ toldTotal r ≡ lengthBefore (now (image .entry)) end left ⌝ }
 {
     if left < 18 {
         return Total::Refused(Refusal::STRUCTURE);
     }
-    let length = le::u16_at(image, end - 18);
+    let length = le::u16_at(&image[end - 18..end - 16], 0);
     if length < 18 {
         return Total::Refused(Refusal::STRUCTURE);
     }
@@ -128,13 +129,13 @@ fn length_before(image: &[u8], end: usize, left: usize) -> Total
     Total::Given(length as u32)
 }
 
-// Checks and counts the entries of a table of this total, backwards from the footer.
-fn counted(image: &[u8], total: u32) -> Checked
-    requires { ⌜ headerOf (now image) ≡ given total ⌝ }
-    ensures { λ r. ⌜ toldTable r ≡ then (entriesUnder (now (image .entry)) total) (totalsOf (now (image .entry))) ⌝ }
+// Checks and counts the entries of so many bytes that end at a place, backwards.
+fn counted(image: &[u8], from: usize, bytes: usize) -> Total
+    requires { ⌜ (bytes ≤ from) × (from ≤ length (now image)) × (bytes < 2 ^ 32) ⌝ }
+    ensures { λ r. ⌜ toldTotal r ≡ then (entriesBefore (now (image .entry)) from bytes) (λ entries. given (length entries)) ⌝ }
 {
-    let mut end = image.len() - 50;
-    let mut left = (total as usize) - 18;
+    let mut end = from;
+    let mut left = bytes;
     let mut count: u32 = 0;
     while 0 < left {
         match length_before(image, end, left) {
@@ -143,13 +144,24 @@ fn counted(image: &[u8], total: u32) -> Checked
                 left -= length as usize;
                 count += 1;
             }
-            Total::Refused(why) => return Checked::Refused(why),
+            Total::Refused(why) => return Total::Refused(why),
         }
     }
-    Checked::Given(Totals {
-        total: total,
-        entries: count,
-    })
+    Total::Given(count)
+}
+
+// The totals of a table of this total, its entries checked.
+fn table_under(image: &[u8], total: u32) -> Checked
+    requires { ⌜ headerOf (now image) ≡ given total ⌝ }
+    ensures { λ r. ⌜ toldTable r ≡ then (entriesUnder (now (image .entry)) total) (totalsOf (now (image .entry))) ⌝ }
+{
+    match counted(image, image.len() - 50, (total as usize) - 18) {
+        Total::Given(entries) => Checked::Given(Totals {
+            total: total,
+            entries: entries,
+        }),
+        Total::Refused(why) => Checked::Refused(why),
+    }
 }
 
 // Checks a table: its total, and the number of its entries.
@@ -157,7 +169,7 @@ pub fn table(image: &[u8]) -> Checked
     ensures { λ r. ⌜ toldTable r ≡ tableOf (now (image .entry)) ⌝ }
 {
     match header(image) {
-        Total::Given(total) => counted(image, total),
+        Total::Given(total) => table_under(image, total),
         Total::Refused(why) => Checked::Refused(why),
     }
 }
@@ -167,7 +179,7 @@ fn entry_before(image: &[u8], end: usize) -> Entry
     requires { ⌜ (end ≤ length (now image)) × (18 ≤ leAt 2 (now image) (end - 18)) × (leAt 2 (now image) (end - 18) ≤ end) ⌝ }
     ensures { λ r. ⌜ r ≡ entryBefore (now (image .entry)) end (leAt 2 (now (image .entry)) (end - 18)) ⌝ }
 {
-    let length = le::u16_at(image, end - 18) as usize;
+    let length = le::u16_at(&image[end - 18..end - 16], 0) as usize;
     Entry {
         guid: guid_at(image, end - 16),
         place: end - length,
@@ -175,24 +187,43 @@ fn entry_before(image: &[u8], end: usize) -> Entry
     }
 }
 
-// The first entry of a checked table that has the GUID, nearest the footer first.
-fn find_in(image: &[u8], t: Totals, guid: Guid) -> Lookup
-    requires { ⌜ tableOf (now image) ≡ given t ⌝ }
-    ensures { λ r. ⌜ toldLookup r ≡ findOf (now (image .entry)) guid ⌝ }
+// A match, where the entries of the `left` bytes before its data are good: one that is not refuses the whole table.
+fn checked_match(image: &[u8], found: Match, left: usize) -> Lookup
+    requires { ⌜ (left ≤ found .place) × (found .place ≤ length (now image)) × (left < 2 ^ 32) ⌝ }
+    ensures { λ r. ⌜ toldLookup r ≡ then (entriesBefore (now (image .entry)) (found .place) left) (λ _. given found) ⌝ }
+{
+    match counted(image, found.place, left) {
+        Total::Given(_) => Lookup::Given(found),
+        Total::Refused(why) => Lookup::Refused(why),
+    }
+}
+
+// Looks a GUID up in a table of this total. Each entry is checked as it is tested, so that the table is walked once.
+fn find_under(image: &[u8], total: u32, guid: Guid) -> Lookup
+    requires { ⌜ headerOf (now image) ≡ given total ⌝ }
+    ensures { λ r. ⌜ toldLookup r ≡ then (entriesUnder (now (image .entry)) total) (findIn guid) ⌝ }
 {
     let mut end = image.len() - 50;
+    let mut left = (total as usize) - 18;
     let mut before: u32 = 0;
-    while before < t.entries {
-        let entry = entry_before(image, end);
-        if same(entry.guid, guid) {
-            return Lookup::Given(Match {
-                place: entry.place,
-                length: entry.length,
-                tested: before + 1,
-            });
+    while 0 < left {
+        match length_before(image, end, left) {
+            Total::Given(size) => {
+                let length = size as usize;
+                if has_guid(image, end - 16, guid) {
+                    let found = Match {
+                        place: end - length,
+                        length: length - 18,
+                        tested: before + 1,
+                    };
+                    return checked_match(image, found, left - length);
+                }
+                end -= length;
+                left -= length;
+                before += 1;
+            }
+            Total::Refused(why) => return Lookup::Refused(why),
         }
-        end = entry.place;
-        before += 1;
     }
     Lookup::Absent(before)
 }
@@ -201,9 +232,9 @@ fn find_in(image: &[u8], t: Totals, guid: Guid) -> Lookup
 pub fn find(image: &[u8], guid: Guid) -> Lookup
     ensures { λ r. ⌜ toldLookup r ≡ findOf (now (image .entry)) guid ⌝ }
 {
-    match table(image) {
-        Checked::Given(t) => find_in(image, t, guid),
-        Checked::Refused(why) => Lookup::Refused(why),
+    match header(image) {
+        Total::Given(total) => find_under(image, total, guid),
+        Total::Refused(why) => Lookup::Refused(why),
     }
 }
 

@@ -1,20 +1,22 @@
 use borrow.Author.Needs.{needs}
 use mathlib.Core.Path.{_≡_, sym, ap, _∙_}
-use Prim.Native.Nat.{ℕ, _+_, _≤_}
+use Prim.Native.Nat.{_+_, _≤_}
+use native.Mathlib.Nat.{add-zero}
 use native.Mathlib.Omega.{arith}
 use denote.Ref.{now}
+use lib.ListN.{length}
 use Rattle.reply.specs.Reply.{given, then}
-use Rattle.guids.specs.Table.{lengthBefore, entriesBefore, entriesUnder, totalsOf, toldTotal}
-use Rattle.guids.proofs.Walk.{header-facts, length-facts, totalsFrom, count-start, count-pass, count-stop, count-end}
+use Rattle.guids.specs.Table.{lengthBefore, entriesBefore, toldTotal}
+use Rattle.guids.proofs.Walk.{length-facts, seen-all, seen-refused, seen-one, countFrom, count-start}
 use Rattle.guids.proofs.counted.Statement.{statement}
 use Rattle.guids.proofs.counted.Tie as tie
 
 abbrev Inv-loop : tie.InvT-loop
-Inv-loop image total end₀ left₀ count₀ end left count =
-    (left ≤ end) × (count + left ≤ total) × (then (entriesBefore image end left) (totalsFrom image count) ≡ then (entriesUnder image total) (totalsOf image))
+Inv-loop image from bytes end₀ left₀ count₀ end left count =
+    (left ≤ end) × (end ≤ length image) × (count + left ≤ bytes) × (then (entriesBefore image end left) (countFrom count) ≡ then (entriesBefore image from bytes) (λ entries. given (length entries)))
 
 abbrev μ-loop : tie.MeasureT-loop
-μ-loop image total end₀ left₀ count₀ end left count = left
+μ-loop image from bytes end₀ left₀ count₀ end left count = left
 
 -- the length of the entry that ends here, as the definition gives it
 length-is : (c : tie.After-known-told Inv-loop μ-loop) → let l = c .before .before .before .before .before .loop in
@@ -24,17 +26,11 @@ length-is c = sym (c .before .before .before .length-before .ensures) ∙ ap tol
 fits : (c : tie.After-known-told Inv-loop μ-loop) → (18 ≤ c .before .length .given .0 .0) × (c .before .length .given .0 .0 ≤ c .before .before .before .before .before .loop .left)
 fits c = let f = length-facts _ _ _ _ (length-is c) in (f .1, f .2)
 
-sub-end : tie.Need-sub-end Inv-loop μ-loop
-sub-end c = omega (arith, header-facts _ _ (c .before .pre))
-
-sub-left : tie.Need-sub-left Inv-loop μ-loop
-sub-left c = omega (arith, header-facts _ _ (c .before .pre))
-
 loop-holds : tie.Need-loop-holds Inv-loop μ-loop
 loop-holds c =
     let a = c .before .args in
-    let f = header-facts (now (a .image)) (a .total) (c .before .pre) in
-    (omega arith, omega arith, count-start (now (a .image)) (entriesUnder (now (a .image)) (a .total)))
+    let p = c .before .pre in
+    (p .0, p .1, omega arith, count-start (entriesBefore (now (a .image)) (a .from) (a .bytes)))
 
 length-before-requires : tie.Need-length-before-requires Inv-loop μ-loop
 length-before-requires c κs = search needs
@@ -45,17 +41,17 @@ enum-known-length c = search needs
 cast-end : tie.Need-cast-end Inv-loop μ-loop
 cast-end c = search needs
 
-sub-end-2 : tie.Need-sub-end-2 Inv-loop μ-loop
-sub-end-2 c = omega (arith, fits c)
+sub-end : tie.Need-sub-end Inv-loop μ-loop
+sub-end c = omega (arith, fits c)
 
 cast-left : tie.Need-cast-left Inv-loop μ-loop
 cast-left c = search needs
 
-sub-left-2 : tie.Need-sub-left-2 Inv-loop μ-loop
-sub-left-2 c = omega (arith, fits c)
+sub-left : tie.Need-sub-left Inv-loop μ-loop
+sub-left c = omega (arith, fits c)
 
 add-count : tie.Need-add-count Inv-loop μ-loop
-add-count c = omega (arith, fits c)
+add-count c = omega (arith, fits c, c .before .before .before .before .before .before .before .pre)
 
 loop-less : tie.Need-loop-less Inv-loop μ-loop
 loop-less c = omega (arith, fits c)
@@ -63,7 +59,7 @@ loop-less c = omega (arith, fits c)
 loop-again : tie.Need-loop-again Inv-loop μ-loop
 loop-again c =
     let l = c .before .before .before .before .before .loop in
-    (omega (arith, fits c), omega (arith, fits c), count-pass _ (l .end) (l .left) (l .count) _ (l .inv .2) (omega arith) _ (length-is c))
+    (omega (arith, fits c), omega (arith, fits c), omega (arith, fits c), seen-one _ (l .end) (l .left) (countFrom (l .count)) _ (l .inv .3) (omega arith) _ (length-is c) (countFrom (l .count + 1)) (λ es. ap given (omega arith)))
 
 enum-known-why : tie.Need-enum-known-why Inv-loop μ-loop
 enum-known-why c = search needs
@@ -71,14 +67,12 @@ enum-known-why c = search needs
 returns : tie.Need-returns Inv-loop μ-loop
 returns c =
     let l = c .before .before .before .before .before .loop in
-    count-stop _ (l .end) (l .left) (l .count) _ (l .inv .2) (omega arith) _ _ (sym (c .before .before .before .length-before .ensures) ∙ ap toldTotal (c .before .why .given .1))
+    seen-refused _ (l .end) (l .left) (countFrom (l .count)) _ (l .inv .3) (omega arith) _ _ (sym (c .before .before .before .length-before .ensures) ∙ ap toldTotal (c .before .why .given .1))
 
 returns-2 : tie.Need-returns-2 Inv-loop μ-loop
 returns-2 c =
     let l = c .before .loop in
-    let a = c .before .before .before .args in
-    let f = header-facts (now (a .image)) (a .total) (c .before .before .before .pre) in
-    ap (λ (n : ℕ). given (record { total = n; entries = l .count })) (sym (f .is)) ∙ count-end _ (l .end) (l .left) (l .count) _ (l .inv .2) (omega arith)
+    ap given (sym (add-zero (l .count))) ∙ seen-all _ (l .end) (l .left) (countFrom (l .count)) _ (l .inv .3) (omega arith)
 
 pub counted-spec : {M : Type 1} → statement M
 counted-spec =
@@ -86,15 +80,13 @@ counted-spec =
     (tie.spec
     Inv-loop
     μ-loop
-    sub-end
-    sub-left
     loop-holds
     length-before-requires
     enum-known-length
     cast-end
-    sub-end-2
+    sub-end
     cast-left
-    sub-left-2
+    sub-left
     add-count
     loop-less
     loop-again

@@ -1,29 +1,35 @@
 use mathlib.Core.Path.{sym, ap, _∙_}
-use Rattle.guids.specs.Table.{findIn, toldTable}
-use Rattle.guids.proofs.Walk.{table-refused}
+use denote.Ref.{now}
+use Rattle.reply.specs.Reply.{then}
+use Rattle.reply.proofs.ReplyLaws.{then-told}
+use Rattle.guids.specs.Table.{entriesUnder, findIn, toldTotal}
 use borrow.Author.Needs.{needs}
 use Rattle.guids.proofs.find.Statement.{statement}
 use Rattle.guids.proofs.find.Tie as tie
 
-table-requires : tie.Need-table-requires
-table-requires c κs = search needs
+header-requires : tie.Need-header-requires
+header-requires c κs = search needs
 
-enum-known-t : tie.Need-enum-known-t
-enum-known-t c = search needs
+enum-known-total : tie.Need-enum-known-total
+enum-known-total c = search needs
 
-find-in-requires : tie.Need-find-in-requires
-find-in-requires c κs = sym (c .before .before .before .table .ensures) ∙ ap toldTable (c .before .t .given .1)
+find-under-requires : tie.Need-find-under-requires
+find-under-requires c κs = sym (c .before .before .before .header .ensures) ∙ ap toldTotal (c .before .total .given .1)
 
 enum-known-why : tie.Need-enum-known-why
 enum-known-why c = search needs
 
 returns : tie.Need-returns
-returns c = search needs
+returns c =
+    let a = c .before .before .before .before .before .before .args in
+    c .find-under .ensures ∙ ap (λ x. then x (findIn (a .guid))) (then-told toldTotal (entriesUnder (now (a .image))) (c .before .before .total .given .1) (c .before .before .before .before .header .ensures))
 
 returns-2 : tie.Need-returns-2
-returns-2 c = table-refused _ (findIn (c .before .before .before .before .before .args .guid)) _ _ (sym (c .before .before .before .table .ensures) ∙ ap toldTable (c .before .why .given .1))
+returns-2 c =
+    let a = c .before .before .before .before .before .args in
+    ap (λ x. then x (findIn (a .guid))) (then-told toldTotal (entriesUnder (now (a .image))) (c .before .why .given .1) (c .before .before .before .header .ensures))
 
 pub find-spec : {M : Type 1} → statement M
 find-spec =
     tie.close
-    (tie.spec table-requires enum-known-t find-in-requires enum-known-why returns returns-2)
+    (tie.spec header-requires enum-known-total find-under-requires enum-known-why returns returns-2)

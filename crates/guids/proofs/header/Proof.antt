@@ -4,7 +4,6 @@ use native.Mathlib.Omega.{arith}
 use denote.Ref.{now}
 use lib.ListN.{length}
 use borrow.Author.Tests.{le-leb, lt-leb}
-use Rattle.guids.specs.declared.Guid.{Guid}
 use Rattle.guids.specs.Table.{guidAt, sameGuid, footer, totalAt, headerOf}
 use Rattle.guids.proofs.Walk.{footer-is}
 use borrow.Author.Needs.{needs}
@@ -12,21 +11,18 @@ use Rattle.guids.proofs.header.Statement.{statement}
 use Rattle.guids.proofs.header.Tie as tie
 
 -- the test of the footer, as the definition has it
-foot : (c : tie.After-same) → let s = now (c .before .before .before .before .args .image) in c .same .result ≡ sameGuid (guidAt s (length s - 48)) footer
-foot c = c .same .ensures ∙ ap (λ (g : Guid). sameGuid g _) (c .before .guid-at .ensures) ∙ ap (sameGuid _) footer-is
+foot : (c : tie.After-has-guid) → let s = now (c .before .before .before .args .image) in c .has-guid .result ≡ sameGuid (guidAt s (length s - 48)) footer
+foot c = c .has-guid .ensures ∙ ap (sameGuid _) footer-is
 
 returns : tie.Need-returns
 unfolding headerOf
 returns c = simp (lt-leb 50 (length (now (c .before .before .args .image))) (c .if1 .taken))
 
-sub-guid-at : tie.Need-sub-guid-at
-sub-guid-at c = search needs
+sub-has-guid : tie.Need-sub-has-guid
+sub-has-guid c = search needs
 
-guid-at-requires : tie.Need-guid-at-requires
-guid-at-requires c κs = search needs
-
-same-requires : tie.Need-same-requires
-same-requires c κs = search needs
+has-guid-requires : tie.Need-has-guid-requires
+has-guid-requires c κs = search needs
 
 sub-u16-at : tie.Need-sub-u16-at
 sub-u16-at c = search needs
@@ -37,7 +33,7 @@ u16-at-requires c κs = search needs
 returns-2 : tie.Need-returns-2
 unfolding headerOf
 returns-2 c =
-    let s = now (c .before .before .before .before .before .before .before .args .image) in
+    let s = now (c .before .before .before .before .before .before .args .image) in
     simp (le-leb 50 (length s) (omega arith), sym (foot (c .before .before .before)) ∙ c .before .before .if2 .taken, lt-leb 18 (totalAt s) (omega arith))
 
 sub-if4 : tie.Need-sub-if4
@@ -49,22 +45,22 @@ cast-if4 c = search needs
 returns-3 : tie.Need-returns-3
 unfolding headerOf
 returns-3 c =
-    let s = now (c .before .before .before .before .before .before .before .before .args .image) in
+    let s = now (c .before .before .before .before .before .before .before .args .image) in
     simp (le-leb 50 (length s) (omega arith), sym (foot (c .before .before .before .before)) ∙ c .before .before .before .if2 .taken, le-leb 18 (totalAt s) (omega arith), lt-leb (totalAt s) (length s - 32) (omega arith))
 
-cast-t17 : tie.Need-cast-t17
-cast-t17 c = search needs
+cast-t16 : tie.Need-cast-t16
+cast-t16 c = search needs
 
 returns-4 : tie.Need-returns-4
 unfolding headerOf
 returns-4 c =
-    let s = now (c .before .before .before .before .before .before .before .before .args .image) in
+    let s = now (c .before .before .before .before .before .before .before .args .image) in
     simp (le-leb 50 (length s) (omega arith), sym (foot (c .before .before .before .before)) ∙ c .before .before .before .if2 .taken, le-leb 18 (totalAt s) (omega arith), le-leb (totalAt s) (length s - 32) (omega arith), c .before .before .u16-at .ensures)
 
 returns-5 : tie.Need-returns-5
 unfolding headerOf
 returns-5 c =
-    let s = now (c .before .before .before .before .before .args .image) in
+    let s = now (c .before .before .before .before .args .image) in
     simp (le-leb 50 (length s) (omega arith), sym (foot (c .before)) ∙ c .if2 .left)
 
 pub header-spec : {M : Type 1} → statement M
@@ -72,15 +68,14 @@ header-spec =
     tie.close
     (tie.spec
     returns
-    sub-guid-at
-    guid-at-requires
-    same-requires
+    sub-has-guid
+    has-guid-requires
     sub-u16-at
     u16-at-requires
     returns-2
     sub-if4
     cast-if4
     returns-3
-    cast-t17
+    cast-t16
     returns-4
     returns-5)

@@ -13,8 +13,8 @@ header-requires c κs = search needs
 enum-known-total : tie.Need-enum-known-total
 enum-known-total c = search needs
 
-counted-requires : tie.Need-counted-requires
-counted-requires c κs = sym (c .before .before .before .header .ensures) ∙ ap toldTotal (c .before .total .given .1)
+table-under-requires : tie.Need-table-under-requires
+table-under-requires c κs = sym (c .before .before .before .header .ensures) ∙ ap toldTotal (c .before .total .given .1)
 
 enum-known-why : tie.Need-enum-known-why
 enum-known-why c = search needs
@@ -22,7 +22,7 @@ enum-known-why c = search needs
 returns : tie.Need-returns
 returns c =
     let s = now (c .before .before .before .before .before .before .args .image) in
-    c .counted .ensures ∙ ap (λ x. then x (totalsOf s)) (then-told toldTotal (entriesUnder s) (c .before .before .total .given .1) (c .before .before .before .before .header .ensures))
+    c .table-under .ensures ∙ ap (λ x. then x (totalsOf s)) (then-told toldTotal (entriesUnder s) (c .before .before .total .given .1) (c .before .before .before .before .header .ensures))
 
 returns-2 : tie.Need-returns-2
 returns-2 c =
@@ -32,4 +32,10 @@ returns-2 c =
 pub table-spec : {M : Type 1} → statement M
 table-spec =
     tie.close
-    (tie.spec header-requires enum-known-total counted-requires enum-known-why returns returns-2)
+    (tie.spec
+    header-requires
+    enum-known-total
+    table-under-requires
+    enum-known-why
+    returns
+    returns-2)
