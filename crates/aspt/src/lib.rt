@@ -2,7 +2,7 @@
 // The places of fields are those of the source's tables: Table 3, and for the structures Tables 5, 7 and 8.
 ghost use mathlib.Core.Path.{_≡_};
 ghost use mathlib.Core.Bool.{_&&_};
-ghost use mathlib.Core.List.{_++_};
+ghost use mathlib.Core.List.{[], _∷_, _++_};
 ghost use lib.ListN.{length, drop};
 ghost use lib.Dec.{leb, eqb};
 ghost use Prim.Native.Nat.{_+_, _*_, _%_, _^_, _≤_};
@@ -29,6 +29,9 @@ impl Structure {
     pub const SEV: u16 = 1;
 
     pub const ACPI: u16 = 2;
+
+    // no structure's type: it stands for one not yet seen
+    const NONE: u16 = 3;
 }
 
 // What a table holds. The OEM ID's six bytes are the four of `oem_low` and the two of `oem_high`.
@@ -63,7 +66,8 @@ pub enum Verdict {
     Refused(Refusal),
 }
 
-// A structure as it stands before its checks: `sized` where its length is right, `clear` where its reserved bytes are zero.
+// A structure as the rules speak of it before its checks: `sized` where its length is right, `clear` where its reserved bytes are zero.
+// The code makes none: a copy of it takes longer than the checks.
 struct Found {
     structure: Structure,
     sized: bool,
@@ -83,46 +87,12 @@ fn byte_sum(bytes: &[u8]) -> u8
     sum
 }
 
-// Is the type none of those seen before?
-fn is_fresh(kind: u16, seen: &[u16]) -> bool
-    ensures { λ r. ⌜ r ≡ fresh (now (seen .entry)) kind ⌝ }
+// Is a type from 0 to 2, and neither of the two seen before?
+fn kind_fits(kind: u16, also: u16, seen: u16) -> bool
+    ensures { λ r. ⌜ r ≡ (leb kind 2 && fresh (also ∷ seen ∷ []) kind) ⌝ }
 {
-    let mut i: usize = 0;
-    while i < seen.len() {
-        if seen[i] == kind {
-            return false;
-        }
-        i += 1;
-    }
-    true
-}
-
-// Does a structure have the right length and a type from 0 to 2 that was not seen before?
-fn kind_fits(f: Found, seen: &[u16]) -> bool
-    ensures { λ r. ⌜ r ≡ (f .sized && leb (f .structure .kind) 2 && fresh (now (seen .entry)) (f .structure .kind)) ⌝ }
-{
-    if f.sized {
-        let kind = f.structure.kind;
-        if kind <= Structure::ACPI {
-            is_fresh(kind, seen)
-        } else {
-            false
-        }
-    } else {
-        false
-    }
-}
-
-// Are the reserved bytes of a structure zero, and type 1's ID byte 0x01?
-fn fields_fit(f: Found) -> bool
-    ensures { λ r. ⌜ r ≡ (f .clear && idFits (f .structure)) ⌝ }
-{
-    if f.clear {
-        if f.structure.kind == Structure::SEV {
-            f.structure.id == 1
-        } else {
-            true
-        }
+    if kind <= Structure::ACPI {
+        if also == kind { false } else { seen != kind }
     } else {
         false
     }
@@ -151,39 +121,6 @@ fn registers_fit(pages: u32, st: Structure) -> bool
         }
     } else {
         false
-    }
-}
-
-// The checks of one structure, given the types seen before it.
-fn check_structure(pages: u32, seen: &[u16], f: Found) -> Verdict
-    ensures { λ r. ⌜ toldVerdict r ≡ structureChecks pages (now (seen .entry)) f done ⌝ }
-{
-    if kind_fits(f, seen) {
-        if fields_fit(f) {
-            if registers_fit(pages, f.structure) {
-                Verdict::Accepted
-            } else {
-                Verdict::Refused(Refusal::OUTSIDE)
-            }
-        } else {
-            Verdict::Refused(Refusal::FIELD)
-        }
-    } else {
-        Verdict::Refused(Refusal::STRUCTURE)
-    }
-}
-
-// The checks of the three structures, one after the other.
-fn check_structures(pages: u32, a: Found, b: Found, c: Found) -> Verdict
-    ensures { λ r. ⌜ toldVerdict r ≡ structuresChecks pages a b c done ⌝ }
-{
-    let kinds = [a.structure.kind, b.structure.kind];
-    match check_structure(pages, &kinds[..0], a) {
-        Verdict::Refused(why) => Verdict::Refused(why),
-        Verdict::Accepted => match check_structure(pages, &kinds[..1], b) {
-            Verdict::Refused(why) => Verdict::Refused(why),
-            Verdict::Accepted => check_structure(pages, &kinds, c),
-        },
     }
 }
 
@@ -226,30 +163,6 @@ fn check_header(table: &[u8]) -> Verdict
     }
 }
 
-// Are the reserved bytes of a structure zero?
-fn reserved_zero(part: &[u8]) -> bool
-    ensures { λ r. ⌜ r ≡ reservedZero (now (part .entry)) ⌝ }
-{
-    let kind = le::u16_at(part, 0);
-    if kind == Structure::SEV {
-        if le::u16_at(part, 5) == 0 {
-            le::byte_at(part, 7) == 0
-        } else {
-            false
-        }
-    } else {
-        if le::u32_at(part, 4) == 0 {
-            if kind == Structure::ACPI {
-                le::u64_at(part, 12) == 0
-            } else {
-                true
-            }
-        } else {
-            false
-        }
-    }
-}
-
 // A structure as its 20 bytes have it.
 fn structure_in(part: &[u8]) -> Structure
     ensures { λ r. ⌜ r ≡ structureIn (now (part .entry)) ⌝ }
@@ -263,28 +176,69 @@ fn structure_in(part: &[u8]) -> Structure
     }
 }
 
-// A structure as it is found in its 20 bytes, before its checks.
-fn found_in(part: &[u8]) -> Found
-    ensures { λ r. ⌜ r ≡ foundIn (now (part .entry)) ⌝ }
+// Are the reserved bytes of a structure zero, and type 1's ID byte 0x01? That byte and the reserved ones behind it are one number.
+fn fields_fit(part: &[u8]) -> bool
+    ensures { λ r. ⌜ r ≡ (reservedZero (now (part .entry)) && idFits (structureIn (now (part .entry)))) ⌝ }
 {
-    Found {
-        structure: structure_in(part),
-        sized: le::u16_at(part, 2) == 20,
-        clear: reserved_zero(part),
+    let kind = le::u16_at(part, 0);
+    let four = le::u32_at(part, 4);
+    if kind == Structure::SEV {
+        return four == 1;
+    }
+    if four != 0 {
+        return false;
+    }
+    if kind == Structure::ACPI {
+        le::u64_at(part, 12) == 0
+    } else {
+        true
     }
 }
 
-// The checks of a table's structures.
+// The checks of one structure where it lies, given the types of the two before it.
+fn check_part(part: &[u8], pages: u32, also: u16, seen: u16) -> Verdict
+    ensures { λ r. ⌜ toldVerdict r ≡ structureChecks pages (also ∷ seen ∷ []) (foundIn (now (part .entry))) done ⌝ }
+{
+    if le::u16_at(part, 2) != 20 {
+        return Verdict::Refused(Refusal::STRUCTURE);
+    }
+    let st = structure_in(part);
+    if kind_fits(st.kind, also, seen) {
+        if fields_fit(part) {
+            if registers_fit(pages, st) {
+                Verdict::Accepted
+            } else {
+                Verdict::Refused(Refusal::OUTSIDE)
+            }
+        } else {
+            Verdict::Refused(Refusal::FIELD)
+        }
+    } else {
+        Verdict::Refused(Refusal::STRUCTURE)
+    }
+}
+
+// The checks of a table's structures, one after the other. Called from one place, the checks of one are not made a call of their own.
 fn check_parts(table: &[u8]) -> Verdict
     requires { ⌜ length (now table) ≡ 112 ⌝ }
     ensures { λ r. ⌜ toldVerdict r ≡ structuresRead (now (table .entry)) done ⌝ }
 {
-    check_structures(
-        le::u32_at(table, 44),
-        found_in(&table[52..72]),
-        found_in(&table[72..92]),
-        found_in(&table[92..112]),
-    )
+    let pages = le::u32_at(table, 44);
+    let mut also = Structure::NONE;
+    let mut seen = Structure::NONE;
+    let mut i: usize = 0;
+    while i < 3 {
+        let at = 52 + 20 * i;
+        match check_part(&table[at..at + 20], pages, also, seen) {
+            Verdict::Refused(why) => return Verdict::Refused(why),
+            Verdict::Accepted => {
+                also = seen;
+                seen = le::u16_at(table, at);
+                i += 1;
+            }
+        }
+    }
+    Verdict::Accepted
 }
 
 // A table with these structures, as the bytes before them have it.
@@ -344,14 +298,46 @@ pub fn read(bytes: &[u8]) -> Reading
     read_table(&bytes[..112])
 }
 
-// A structure as a writer is given it: length and reserved bytes are the writer's.
-fn as_given(st: Structure) -> Found
-    ensures { λ r. ⌜ r ≡ asGiven st ⌝ }
+// Is the ID byte of type 1 0x01?
+fn id_fits(st: Structure) -> bool
+    ensures { λ r. ⌜ r ≡ idFits st ⌝ }
 {
-    Found {
-        structure: st,
-        sized: true,
-        clear: true,
+    if st.kind == Structure::SEV {
+        st.id == 1
+    } else {
+        true
+    }
+}
+
+// The checks of one structure that is to be written, given the types of the two before it.
+fn check_structure(st: Structure, pages: u32, also: u16, seen: u16) -> Verdict
+    ensures { λ r. ⌜ toldVerdict r ≡ structureChecks pages (also ∷ seen ∷ []) (asGiven st) done ⌝ }
+{
+    if kind_fits(st.kind, also, seen) {
+        if id_fits(st) {
+            if registers_fit(pages, st) {
+                Verdict::Accepted
+            } else {
+                Verdict::Refused(Refusal::OUTSIDE)
+            }
+        } else {
+            Verdict::Refused(Refusal::FIELD)
+        }
+    } else {
+        Verdict::Refused(Refusal::STRUCTURE)
+    }
+}
+
+// The checks of the three structures, one after the other.
+fn check_structures(pages: u32, a: Structure, b: Structure, c: Structure) -> Verdict
+    ensures { λ r. ⌜ toldVerdict r ≡ structuresChecks pages (asGiven a) (asGiven b) (asGiven c) done ⌝ }
+{
+    match check_structure(a, pages, Structure::NONE, Structure::NONE) {
+        Verdict::Refused(why) => Verdict::Refused(why),
+        Verdict::Accepted => match check_structure(b, pages, Structure::NONE, a.kind) {
+            Verdict::Refused(why) => Verdict::Refused(why),
+            Verdict::Accepted => check_structure(c, pages, a.kind, b.kind),
+        },
     }
 }
 
@@ -360,12 +346,7 @@ fn admit(table: Table) -> Verdict
     ensures { λ r. ⌜ toldVerdict r ≡ admitOf table ⌝ }
 {
     if space_fits(table.base, table.pages) {
-        check_structures(
-            table.pages,
-            as_given(table.first),
-            as_given(table.second),
-            as_given(table.third),
-        )
+        check_structures(table.pages, table.first, table.second, table.third)
     } else {
         Verdict::Refused(Refusal::FIELD)
     }

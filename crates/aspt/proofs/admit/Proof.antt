@@ -1,6 +1,5 @@
 use Rattle.aspt.proofs.Checks.{space-by}
 use Rattle.aspt.specs.Calls.{admitOf}
-use Rattle.aspt.specs.Rules.{structuresChecks, done}
 use mathlib.Core.Bool.{true, false}
 use mathlib.Core.Path.{sym, _∙_}
 use borrow.Author.Needs.{needs}
@@ -10,25 +9,14 @@ use Rattle.aspt.proofs.admit.Tie as tie
 space-fits-requires : tie.Need-space-fits-requires
 space-fits-requires c κs = search needs
 
-as-given-requires : tie.Need-as-given-requires
-as-given-requires c κs = search needs
-
-as-given-requires-2 : tie.Need-as-given-requires-2
-as-given-requires-2 c κs = search needs
-
-as-given-requires-3 : tie.Need-as-given-requires-3
-as-given-requires-3 c κs = search needs
-
 check-structures-requires : tie.Need-check-structures-requires
 check-structures-requires c κs = search needs
 
 returns : tie.Need-returns
 unfolding admitOf
 returns c =
-    let t = c .before .before .before .before .before .before .args .table in
-    c .check-structures .ensures
-    ∙ (λ i. structuresChecks (t .pages) (c .before .before .before .as-given .ensures i) (c .before .before .as-given2 .ensures i) (c .before .as-given3 .ensures i) done)
-    ∙ space-by (t .base) (t .pages) _ true (sym (c .before .before .before .before .before .space-fits .ensures) ∙ c .before .before .before .before .if1 .taken)
+    let t = c .before .before .before .args .table in
+    c .check-structures .ensures ∙ space-by (t .base) (t .pages) _ true (sym (c .before .before .space-fits .ensures) ∙ c .before .if1 .taken)
 
 returns-2 : tie.Need-returns-2
 unfolding admitOf
@@ -41,9 +29,6 @@ admit-spec =
     tie.close
     (tie.spec
     space-fits-requires
-    as-given-requires
-    as-given-requires-2
-    as-given-requires-3
     check-structures-requires
     returns
     returns-2)

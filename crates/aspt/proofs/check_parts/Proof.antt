@@ -1,72 +1,100 @@
-use Rattle.aspt.specs.Rules.{structuresChecks, done}
-use mathlib.Core.Path.{_∙_}
 use borrow.Author.Needs.{needs}
+use mathlib.Core.Path.{_≡_, refl, _∙_}
+use Prim.Native.Nat.{_-_, _≤_}
+use denote.Ref.{now}
+use Rattle.reply.proofs.ReplyLaws.{then-told}
+use Rattle.aspt.specs.Calls.{toldVerdict}
+use native.Mathlib.Omega.{arith}
+use Rattle.aspt.proofs.Checks.{partsFrom, parts-all, parts-step, parts-end}
 use Rattle.aspt.proofs.check_parts.Statement.{statement}
 use Rattle.aspt.proofs.check_parts.Tie as tie
 
-u32-at-requires : tie.Need-u32-at-requires
+abbrev Inv-loop : tie.InvT-loop
+Inv-loop table pages also₀ seen₀ i₀ also seen i = (i ≤ 3) × (partsFrom pages table (3 - i) i also seen ≡ partsFrom pages table 3 0 3 3)
+
+abbrev μ-loop : tie.MeasureT-loop
+μ-loop table pages also₀ seen₀ i₀ also seen i = 3 - i
+
+u32-at-requires : tie.Need-u32-at-requires Inv-loop μ-loop
 u32-at-requires c κs = search needs
 
-sub-found-in : tie.Need-sub-found-in
-sub-found-in c = search needs
+loop-holds : tie.Need-loop-holds Inv-loop μ-loop
+loop-holds c = (omega arith, refl)
 
-part-found-in-start : tie.Need-part-found-in-start
-part-found-in-start c = search needs
+mul-at : tie.Need-mul-at Inv-loop μ-loop
+mul-at c = search needs
 
-part-found-in-end : tie.Need-part-found-in-end
-part-found-in-end c = search needs
+add-at : tie.Need-add-at Inv-loop μ-loop
+add-at c = search needs
 
-found-in-requires : tie.Need-found-in-requires
-found-in-requires c κs = search needs
+add-check-part : tie.Need-add-check-part Inv-loop μ-loop
+add-check-part c = search needs
 
-sub-found-in-2 : tie.Need-sub-found-in-2
-sub-found-in-2 c = search needs
+sub-check-part : tie.Need-sub-check-part Inv-loop μ-loop
+sub-check-part c = search needs
 
-part-found-in-start-2 : tie.Need-part-found-in-start-2
-part-found-in-start-2 c = search needs
+part-check-part-start : tie.Need-part-check-part-start Inv-loop μ-loop
+part-check-part-start c = search needs
 
-part-found-in-end-2 : tie.Need-part-found-in-end-2
-part-found-in-end-2 c = search needs
+part-check-part-end : tie.Need-part-check-part-end Inv-loop μ-loop
+part-check-part-end c = search needs
 
-found-in-requires-2 : tie.Need-found-in-requires-2
-found-in-requires-2 c κs = search needs
+check-part-requires : tie.Need-check-part-requires Inv-loop μ-loop
+check-part-requires c κs = search needs
 
-sub-found-in-3 : tie.Need-sub-found-in-3
-sub-found-in-3 c = search needs
+enum-known-why : tie.Need-enum-known-why Inv-loop μ-loop
+enum-known-why c = search needs
 
-part-found-in-start-3 : tie.Need-part-found-in-start-3
-part-found-in-start-3 c = search needs
-
-part-found-in-end-3 : tie.Need-part-found-in-end-3
-part-found-in-end-3 c = search needs
-
-found-in-requires-3 : tie.Need-found-in-requires-3
-found-in-requires-3 c κs = search needs
-
-check-structures-requires : tie.Need-check-structures-requires
-check-structures-requires c κs = search needs
-
-returns : tie.Need-returns
+returns : tie.Need-returns Inv-loop μ-loop
 returns c =
-    c .check-structures .ensures
-    ∙ (λ i. structuresChecks (c .before .before .before .before .before .before .before .u32-at .ensures i) (c .before .before .before .before .before .found-in .ensures i) (c .before .before .before .found-in2 .ensures i) (c .before .found-in3 .ensures i) done)
+    let l = c .before .before .before .before .before .before .loop in
+    let s = now (c .before .before .before .before .before .before .before .before .before .args .table) in
+    then-told toldVerdict _ (c .before .why .given .1) (c .before .before .before .check-part .ensures) ∙ parts-step _ s (l .i) (l .also) (l .seen) _ refl (omega arith) ∙ l .inv .1 ∙ parts-all _ s (c .before .before .before .before .before .before .before .u32-at .ensures)
+
+enum-told : tie.Need-enum-told Inv-loop μ-loop
+enum-told c = search needs
+
+u16-at-requires : tie.Need-u16-at-requires Inv-loop μ-loop
+u16-at-requires c κs = search needs
+
+add-i : tie.Need-add-i Inv-loop μ-loop
+add-i c = search needs
+
+loop-less : tie.Need-loop-less Inv-loop μ-loop
+loop-less c = search needs
+
+loop-again : tie.Need-loop-again Inv-loop μ-loop
+loop-again c =
+    let l = c .before .before .before .before .before .before .loop in
+    let s = now (c .before .before .before .before .before .before .before .before .before .args .table) in
+    (omega arith, then-told toldVerdict _ (c .before .enum-told .given .1) (c .before .before .before .check-part .ensures) ∙ parts-step _ s (l .i) (l .also) (l .seen) _ (c .u16-at .ensures) (omega arith) ∙ l .inv .1)
+
+returns-2 : tie.Need-returns-2 Inv-loop μ-loop
+returns-2 c =
+    let l = c .before .loop in
+    let s = now (c .before .before .before .before .args .table) in
+    parts-end _ s (l .i) (l .also) (l .seen) (omega arith) ∙ l .inv .1 ∙ parts-all _ s (c .before .before .u32-at .ensures)
 
 pub check-parts-spec : {M : Type 1} → statement M
 check-parts-spec =
     tie.close
     (tie.spec
+    Inv-loop
+    μ-loop
     u32-at-requires
-    sub-found-in
-    part-found-in-start
-    part-found-in-end
-    found-in-requires
-    sub-found-in-2
-    part-found-in-start-2
-    part-found-in-end-2
-    found-in-requires-2
-    sub-found-in-3
-    part-found-in-start-3
-    part-found-in-end-3
-    found-in-requires-3
-    check-structures-requires
-    returns)
+    loop-holds
+    mul-at
+    add-at
+    add-check-part
+    sub-check-part
+    part-check-part-start
+    part-check-part-end
+    check-part-requires
+    enum-known-why
+    returns
+    enum-told
+    u16-at-requires
+    add-i
+    loop-less
+    loop-again
+    returns-2)

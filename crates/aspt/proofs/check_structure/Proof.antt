@@ -7,30 +7,30 @@ use Rattle.aspt.proofs.check_structure.Tie as tie
 kind-fits-requires : tie.Need-kind-fits-requires
 kind-fits-requires c κs = search needs
 
-fields-fit-requires : tie.Need-fields-fit-requires
-fields-fit-requires c κs = search needs
+id-fits-requires : tie.Need-id-fits-requires
+id-fits-requires c κs = search needs
 
 registers-fit-requires : tie.Need-registers-fit-requires
 registers-fit-requires c κs = search needs
 
 returns : tie.Need-returns
-returns c = by-number _ _ _ _ (sym (c .before .before .before .before .before .kind-fits .ensures) ∙ c .before .before .before .before .if1 .taken) (sym (c .before .before .before .fields-fit .ensures) ∙ c .before .before .if2 .taken) (sym (c .before .registers-fit .ensures) ∙ c .if3 .taken)
+returns c = by-number _ _ _ _ refl (sym (c .before .before .before .before .before .kind-fits .ensures) ∙ c .before .before .before .before .if1 .taken) (sym (c .before .before .before .id-fits .ensures) ∙ c .before .before .if2 .taken) (sym (c .before .registers-fit .ensures) ∙ c .if3 .taken)
 
 returns-2 : tie.Need-returns-2
-returns-2 c = by-number _ _ _ _ (sym (c .before .before .before .before .before .kind-fits .ensures) ∙ c .before .before .before .before .if1 .taken) (sym (c .before .before .before .fields-fit .ensures) ∙ c .before .before .if2 .taken) (sym (c .before .registers-fit .ensures) ∙ c .if3 .left)
+returns-2 c = by-number _ _ _ _ refl (sym (c .before .before .before .before .before .kind-fits .ensures) ∙ c .before .before .before .before .if1 .taken) (sym (c .before .before .before .id-fits .ensures) ∙ c .before .before .if2 .taken) (sym (c .before .registers-fit .ensures) ∙ c .if3 .left)
 
 returns-3 : tie.Need-returns-3
-returns-3 c = by-number _ _ _ _ (sym (c .before .before .before .kind-fits .ensures) ∙ c .before .before .if1 .taken) (sym (c .before .fields-fit .ensures) ∙ c .if2 .left) refl
+returns-3 c = by-number _ _ _ _ refl (sym (c .before .before .before .kind-fits .ensures) ∙ c .before .before .if1 .taken) (sym (c .before .id-fits .ensures) ∙ c .if2 .left) refl
 
 returns-4 : tie.Need-returns-4
-returns-4 c = by-number _ _ _ _ (sym (c .before .kind-fits .ensures) ∙ c .if1 .left) refl refl
+returns-4 c = by-number _ _ _ _ refl (sym (c .before .kind-fits .ensures) ∙ c .if1 .left) refl refl
 
 pub check-structure-spec : {M : Type 1} → statement M
 check-structure-spec =
     tie.close
     (tie.spec
     kind-fits-requires
-    fields-fit-requires
+    id-fits-requires
     registers-fit-requires
     returns
     returns-2

@@ -1,19 +1,19 @@
-use borrow.Author.Tests.{le-leb, lt-leb}
-use borrow.Author.Needs.{needs}
+use Rattle.aspt.specs.Rules.{fresh}
+use mathlib.Core.Bool.{and-true}
+use borrow.Author.Tests.{le-leb, lt-leb, eq-eqb, ne-eqb}
 use Rattle.aspt.proofs.kind_fits.Statement.{statement}
 use Rattle.aspt.proofs.kind_fits.Tie as tie
 
-is-fresh-requires : tie.Need-is-fresh-requires
-is-fresh-requires c κs = search needs
-
 returns : tie.Need-returns
-returns c = simp (c .before .before .if1 .taken, le-leb _ _ (c .before .if2 .taken)) (c .is-fresh .ensures)
+unfolding fresh
+returns c = simp (le-leb _ _ (c .before .if1 .taken), eq-eqb _ _ (c .if2 .taken))
 
 returns-2 : tie.Need-returns-2
-returns-2 c = simp (c .before .if1 .taken, lt-leb _ _ (c .if2 .left))
+unfolding fresh
+returns-2 c = simp (le-leb _ _ (c .before .if1 .taken), ne-eqb _ _ (c .if2 .left), and-true)
 
 returns-3 : tie.Need-returns-3
-returns-3 c = search needs
+returns-3 c = simp (lt-leb _ _ (c .if1 .left))
 
 pub kind-fits-spec : {M : Type 1} → statement M
-kind-fits-spec = tie.close (tie.spec is-fresh-requires returns returns-2 returns-3)
+kind-fits-spec = tie.close (tie.spec returns returns-2 returns-3)
