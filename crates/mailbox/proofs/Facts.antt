@@ -26,7 +26,7 @@ pub both : (a b : Bool) → a && b ≡ true → (a ≡ true) × (b ≡ true)
 both true b e = (refl, e)
 both false b e = absurd (false≢true e)
 
-all-facts : (n : ℕ) (f : ℕ → Bool) → allBelow n f ≡ true → (i : ℕ) → i < n → f i ≡ true
+pub all-facts : (n : ℕ) (f : ℕ → Bool) → allBelow n f ≡ true → (i : ℕ) → i < n → f i ≡ true
 unfolding allBelow
 all-facts zero f e i h = absurd (omega arith)
 all-facts (suc n) f e i h =
@@ -37,7 +37,7 @@ all-facts (suc n) f e i h =
     go b r (yes p) = rw p b
     go b r (no q) = r (omega arith)
 
-all-test : (n : ℕ) (f : ℕ → Bool) → ((i : ℕ) → i < n → f i ≡ true) → allBelow n f ≡ true
+pub all-test : (n : ℕ) (f : ℕ → Bool) → ((i : ℕ) → i < n → f i ≡ true) → allBelow n f ≡ true
 unfolding allBelow
 all-test zero f h = refl
 all-test (suc n) f h = rw (h n (omega arith)) (all-test n f (λ i p. h i (omega arith)))

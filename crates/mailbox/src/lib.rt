@@ -104,14 +104,14 @@ fn shift(line: [Post; 8]) -> [Post; 8]
 
 impl Post {
     // 1 where the post is the caller's, else 0.
-    fn is_of(self, caller: u32) -> usize
+    pub fn is_of(self, caller: u32) -> usize
         ensures { λ r. ⌜ r ≡ once (eqb (self .caller) caller) ⌝ }
         ensures { λ r. ⌜ r ≤ 1 ⌝ }
     {
         if self.caller == caller { 1 } else { 0 }
     }
 
-    fn fits(self) -> bool
+    pub fn fits(self) -> bool
         ensures { λ r. ⌜ r ≡ fitPost self ⌝ }
     {
         if self.caller <= 7 {
@@ -155,7 +155,7 @@ fn posts_fit(line: [Post; 8], n: usize) -> bool
 }
 
 impl Phase {
-    fn fits(self) -> bool
+    pub fn fits(self) -> bool
         ensures { λ r. ⌜ r ≡ fitRegister self ⌝ }
     {
         match self {
@@ -172,7 +172,7 @@ impl Phase {
     }
 
     // How often the caller's post is in the register.
-    fn holds(self, caller: u32) -> usize
+    pub fn holds(self, caller: u32) -> usize
         ensures { λ r. ⌜ r ≡ inRegister caller self ⌝ }
         ensures { λ r. ⌜ r ≤ 1 ⌝ }
     {
@@ -192,7 +192,7 @@ impl Phase {
 
 impl PlaceState {
     // How often the caller's post is to be found in line and register.
-    fn waits(self) -> usize
+    pub fn waits(self) -> usize
         ensures { λ r. ⌜ r ≡ waits self ⌝ }
     {
         match self {

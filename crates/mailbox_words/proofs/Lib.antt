@@ -1,6 +1,6 @@
 pub mod LayoutLaws
+pub mod HeldLaws
+pub mod FitLaws
+pub mod StoredLaws
+pub mod WrittenLaws
 pub mod CallLaws
-pub mod TypedLaws
-pub mod Back
-pub mod Faithful
-pub mod Runs

@@ -1,5 +1,3 @@
 pub mod Layout
+pub mod Stored
 pub mod Calls
-pub mod Typed
-pub mod Faithful
-pub mod Runs

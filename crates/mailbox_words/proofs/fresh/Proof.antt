@@ -1,14 +1,12 @@
 -- `mailbox_words::fresh` meets its contract. Assumes nothing.
 use Rattle.mailbox_words.proofs.CallLaws.{fresh-number, fresh-words}
+use mathlib.Core.Path.{refl}
 use borrow.Author.Needs.{needs}
 use Rattle.mailbox_words.proofs.fresh.Statement.{statement}
 use Rattle.mailbox_words.proofs.fresh.Tie as tie
 
-fresh-requires : tie.Need-fresh-requires
-fresh-requires c κs = search needs
-
-pack-requires : tie.Need-pack-requires
-pack-requires c κs = search needs
+array-write-packed : tie.Need-array-write-packed
+array-write-packed c = search needs
 
 slice-aggregate-put : tie.Need-slice-aggregate-put
 slice-aggregate-put c = search needs
@@ -23,6 +21,4 @@ returns : tie.Need-returns
 returns c = (search fresh-number, search fresh-words)
 
 pub fresh-spec : {M : Type 1} → statement M
-fresh-spec =
-    tie.close
-    (tie.spec fresh-requires pack-requires slice-aggregate-put put-requires same-length returns)
+fresh-spec = tie.close (tie.spec array-write-packed slice-aggregate-put put-requires same-length returns)

@@ -1,0 +1,4 @@
+pub mod TypedLaws
+pub mod Back
+pub mod Faithful
+pub mod Runs

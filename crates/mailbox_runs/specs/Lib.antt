@@ -1,0 +1,3 @@
+pub mod Typed
+pub mod Faithful
+pub mod Runs
