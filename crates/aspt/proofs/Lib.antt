@@ -1,6 +1,7 @@
 pub mod Loops
 pub mod Checks
 pub mod Written
+pub mod SumLaws
 pub mod Told
 pub mod Parts
 pub mod Accept

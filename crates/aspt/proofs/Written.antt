@@ -1,15 +1,15 @@
 -- What the writer's steps leave: the table's 112 bytes, and the bytes after them. Assumes nothing.
 use mathlib.Core.Path.{_≡_, refl, sym, ap, _∙_}
-use mathlib.Core.List.{List, [], _∷_, _++_, append-assoc}
-use Prim.Native.Nat.{ℕ, _+_, _-_, _%_, _≤_}
+use mathlib.Core.List.{List, [], _++_, append-assoc}
+use Prim.Native.Nat.{ℕ, _+_, _*_, _/_, _%_, _≤_, _<_}
 use native.Mathlib.Omega.{arith}
 use lib.ListN.{length, take, drop, length-append}
 use lib.Seq.{drop-drop}
 use borrow.Rule.Slice.PartMut.{putMid}
-use Rattle.le.specs.Le.{leBytes, putBytes, putAt, bytesOf}
-use Rattle.le.proofs.Put.{put-some, put-join}
+use Rattle.le.specs.Le.{leBytes, putBytes, bytesOf}
+use Rattle.le.proofs.Put.{put-some, put-join, bytes-split}
 use Rattle.le.proofs.Back.{put-long}
-use Rattle.aspt.specs.Bytes.{identityFields, makerFields, spaceFields, partBytes, bytesWith}
+use Rattle.aspt.specs.Bytes.{identityFields, makerFields, spaceFields, partFields, partBytes, bytesWith}
 use Rattle.aspt.specs.declared.Structure.{Structure}
 use Rattle.aspt.specs.declared.Table.{Table}
 
@@ -52,15 +52,15 @@ pub table-long : (sum : ℕ) (t : Table) → length (bytesWith sum t) ≡ 112
 unfolding bytesWith partBytes bytesOf leBytes
 table-long sum t = refl
 
-module _ (t : Table) (s : List ℕ) (h : 112 ≤ length s) where
+module _ (sum : ℕ) (t : Table) (s : List ℕ) (h : 112 ≤ length s) where
   pub fields-written :
       putMid 92 20 (putMid 72 20 (putMid 52 20
-      (putBytes (bytesOf (spaceFields t)) (putBytes (bytesOf (makerFields t)) (putBytes (bytesOf (identityFields 0)) s 0) 10) 36)
+      (putBytes (bytesOf (spaceFields t)) (putBytes (bytesOf (makerFields t)) (putBytes (bytesOf (identityFields sum)) s 0) 10) 36)
       (partBytes (t .first))) (partBytes (t .second))) (partBytes (t .third))
-      ≡ bytesWith 0 t ++ drop 112 s
+      ≡ bytesWith sum t ++ drop 112 s
   unfolding bytesWith partBytes bytesOf leBytes
   fields-written =
-      let u = bytesOf (identityFields 0) in
+      let u = bytesOf (identityFields sum) in
       let v = bytesOf (makerFields t) in
       let w = bytesOf (spaceFields t) in
       let a = partBytes (t .first) in
@@ -68,7 +68,27 @@ module _ (t : Table) (s : List ℕ) (h : 112 ≤ length s) where
       let c = partBytes (t .third) in
       six u v w a b c s refl refl refl refl refl refl h ∙ put-some (u ++ v ++ w ++ a ++ b ++ c) s 0 h
 
--- the checksum, put where a 0 stood
-pub checksum-written : (sum : ℕ) (t : Table) (rest : List ℕ) → putAt 1 sum (bytesWith 0 t ++ rest) 9 ≡ bytesWith sum t ++ rest
-unfolding bytesWith partBytes bytesOf leBytes
-checksum-written sum t rest = put-some (sum % 256 ∷ []) (bytesWith 0 t ++ rest) 9 (rw (length-append (bytesWith 0 t) rest) (omega arith))
+-- two numbers of four bytes as one of eight
+pub joined-bytes : (low high : ℕ) → low < 0x1_0000_0000 → leBytes 8 (low + 0x1_0000_0000 * high) ≡ leBytes 4 low ++ leBytes 4 high
+joined-bytes low high h =
+    let x = low + 0x1_0000_0000 * high in
+    let l : x % 0x1_0000_0000 ≡ low = omega arith in
+    let u : x / 0x1_0000_0000 ≡ high = omega arith in
+    bytes-split 4 4 x ∙ (λ i. leBytes 4 (l i) ++ leBytes 4 (u i))
+
+-- a structure's first eight bytes as one number
+pub front-bytes : (kind id : ℕ) → kind < 0x1_0000 → id < 0x100 →
+    leBytes 8 (kind + 0x14_0000 + 0x1_0000_0000 * id) ≡ (leBytes 2 kind ++ leBytes 2 20) ++ (leBytes 1 id ++ leBytes 3 0)
+front-bytes kind id hk hi =
+    let l : (kind + 0x14_0000) % 0x1_0000 ≡ kind = omega arith in
+    let u : (kind + 0x14_0000) / 0x1_0000 ≡ 20 = omega arith in
+    let b : id % 0x100 ≡ id = omega arith in
+    let z : id / 0x100 ≡ 0 = omega arith in
+    joined-bytes (kind + 0x14_0000) id (omega arith)
+    ∙ (λ i. bytes-split 2 2 (kind + 0x14_0000) i ++ bytes-split 1 3 id i)
+    ∙ (λ i. (leBytes 2 (l i) ++ leBytes 2 (u i)) ++ (leBytes 1 (b i) ++ leBytes 3 (z i)))
+
+pub part-written : (st : Structure) → st .kind < 0x1_0000 → st .id < 0x100 → st .first < 0x1_0000_0000 →
+    leBytes 8 (st .kind + 0x14_0000 + 0x1_0000_0000 * st .id) ++ (leBytes 8 (st .first + 0x1_0000_0000 * st .second) ++ (leBytes 4 (st .third) ++ [])) ≡ bytesOf (partFields st)
+unfolding bytesOf leBytes
+part-written st hk hi hf = λ i. front-bytes (st .kind) (st .id) hk hi i ++ (joined-bytes (st .first) (st .second) hf i ++ (leBytes 4 (st .third) ++ []))

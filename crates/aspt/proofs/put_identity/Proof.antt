@@ -29,7 +29,7 @@ unfolding bytesOf leBytes
 returns c =
     let a = c .before .before .before .before .before .before .before .before .before .before .before .before .before .before .before .before .before .args in
     put-next _ _ (c .before .before .put82 .ensures) (put-next _ _ (c .before .before .before .before .before .before .put8 .ensures) (put-next _ _ (c .before .before .before .before .before .before .before .before .before .before .put322 .ensures) (c .before .before .before .before .before .before .before .before .before .before .before .before .before .before .put32 .ensures)))
-    ∙ puts-all (identityFields 0) (now (a .buf)) 0 (omega (arith, c .before .before .before .before .before .before .before .before .before .before .before .before .before .before .before .before .before .pre))
+    ∙ puts-all (identityFields (a .sum)) (now (a .buf)) 0 (omega (arith, c .before .before .before .before .before .before .before .before .before .before .before .before .before .before .before .before .before .pre))
 
 pub put-identity-spec : {M : Type 1} → statement M
 put-identity-spec =

@@ -1,71 +1,109 @@
-use Rattle.aspt.proofs.Written.{table-long, checksum-written}
-use Rattle.aspt.specs.Bytes.{bytesWith, tableBytes}
-use Rattle.aspt.specs.Rules.{sumOf}
-use Rattle.le.specs.Le.{putAt}
-use lib.Seq.{take-at}
-use lib.ListN.{length, take, drop}
+use Rattle.aspt.proofs.Written.{fields-written}
+use Rattle.aspt.specs.Bytes.{partFields, partBytes, identityFields, makerFields, spaceFields, checksumOf, tableBytes}
+use Rattle.aspt.specs.declared.Structure.{Structure}
+use Rattle.le.specs.Le.{putBytes, bytesOf}
+use borrow.Rule.Slice.PartMut.{putMid}
 use denote.Ref.{now}
-use Prim.Native.Nat.{ℕ, _-_, _%_}
+use Prim.Native.Nat.{ℕ}
 use mathlib.Core.List.{List}
-use mathlib.Core.Path.{sym, ap, _∙_}
+use mathlib.Core.Path.{ap, _∙_}
 use borrow.Author.Needs.{needs}
 use Rattle.aspt.proofs.put_table.Statement.{statement}
 use Rattle.aspt.proofs.put_table.Tie as tie
 
-put-fields-requires : tie.Need-put-fields-requires
-put-fields-requires c κs = search needs
+own-requires : tie.Need-own-requires
+own-requires c κs = search needs
 
-slice-reshare-prefix-byte-sum : tie.Need-slice-reshare-prefix-byte-sum
-slice-reshare-prefix-byte-sum c = search needs
+own-requires-2 : tie.Need-own-requires-2
+own-requires-2 c κs = search needs
 
-slice-aggregate-byte-sum : tie.Need-slice-aggregate-byte-sum
-slice-aggregate-byte-sum c =
-    let t = c .before .before .before .before .before .before .args .table in
-    sym
-    (ap (λ (x : List ℕ). length (take 112 x)) (c .before .before .before .put-fields .ensures)
-    ∙ ap length (take-at (bytesWith 0 t) (drop 112 (now (c .before .before .before .before .before .before .args .buf))) 112 (table-long 0 t))
-    ∙ table-long 0 t)
+own-requires-3 : tie.Need-own-requires-3
+own-requires-3 c κs = search needs
 
-byte-sum-requires : tie.Need-byte-sum-requires
-byte-sum-requires c κs = search needs
+checksum-requires : tie.Need-checksum-requires
+checksum-requires c κs = search needs
 
-cast-put8 : tie.Need-cast-put8
-cast-put8 c = search needs
+put-identity-requires : tie.Need-put-identity-requires
+put-identity-requires c κs = search needs
 
-sub-put8 : tie.Need-sub-put8
-sub-put8 c = search needs
+put-maker-requires : tie.Need-put-maker-requires
+put-maker-requires c κs = search needs
 
-cast-put8-2 : tie.Need-cast-put8-2
-cast-put8-2 c = search needs
+put-space-requires : tie.Need-put-space-requires
+put-space-requires c κs = search needs
 
-put8-requires : tie.Need-put8-requires
-put8-requires c κs = search needs
+sub-put-structure : tie.Need-sub-put-structure
+sub-put-structure c = search needs
+
+part-put-structure-start : tie.Need-part-put-structure-start
+part-put-structure-start c = search needs
+
+part-put-structure-end : tie.Need-part-put-structure-end
+part-put-structure-end c = search needs
+
+put-structure-requires : tie.Need-put-structure-requires
+put-structure-requires c κs = search needs
+
+sub-put-structure-2 : tie.Need-sub-put-structure-2
+sub-put-structure-2 c = search needs
+
+part-put-structure-start-2 : tie.Need-part-put-structure-start-2
+part-put-structure-start-2 c = search needs
+
+part-put-structure-end-2 : tie.Need-part-put-structure-end-2
+part-put-structure-end-2 c = search needs
+
+put-structure-requires-2 : tie.Need-put-structure-requires-2
+put-structure-requires-2 c κs = search needs
+
+sub-put-structure-3 : tie.Need-sub-put-structure-3
+sub-put-structure-3 c = search needs
+
+part-put-structure-start-3 : tie.Need-part-put-structure-start-3
+part-put-structure-start-3 c = search needs
+
+part-put-structure-end-3 : tie.Need-part-put-structure-end-3
+part-put-structure-end-3 c = search needs
+
+put-structure-requires-3 : tie.Need-put-structure-requires-3
+put-structure-requires-3 c κs = search needs
 
 same-length : tie.Need-same-length
 same-length c = search needs
 
 returns : tie.Need-returns
-unfolding tableBytes
+unfolding tableBytes partBytes
 returns c =
-    let t = c .before .before .before .before .before .before .before .before .before .before .before .args .table in
-    let rest = drop 112 (now (c .before .before .before .before .before .before .before .before .before .before .before .args .buf)) in
-    let fields = c .before .before .before .before .before .before .before .before .put-fields .ensures in
-    let sum = c .before .before .before .before .byte-sum .ensures ∙ ap (λ (x : List ℕ). sumOf (take 112 x) % 256) fields ∙ ap (λ (x : List ℕ). sumOf x % 256) (take-at (bytesWith 0 t) rest 112 (table-long 0 t)) in
-    c .before .before .put8 .ensures
-    ∙ (λ i. putAt 1 ((256 - sum i) % 256) (fields i) 9)
-    ∙ checksum-written ((256 - sumOf (bytesWith 0 t) % 256) % 256) t rest
+    let t = c .before .before .before .before .before .before .before .before .before .before .before .before .before .before .before .before .before .before .before .before .before .before .before .before .before .before .before .before .before .args .table in
+    let part : Structure → List ℕ = λ st. bytesOf (partFields st) in
+    let identity = c .before .before .before .before .before .before .before .before .before .before .before .before .before .before .before .before .before .before .before .before .before .before .put-identity .ensures ∙ ap (λ (x : ℕ). putBytes (bytesOf (identityFields x)) (now (c .before .before .before .before .before .before .before .before .before .before .before .before .before .before .before .before .before .before .before .before .before .before .before .before .before .before .before .before .before .args .buf)) 0) (c .before .before .before .before .before .before .before .before .before .before .before .before .before .before .before .before .before .before .before .before .before .before .before .checksum .ensures) in
+    let maker = c .before .before .before .before .before .before .before .before .before .before .before .before .before .before .before .before .before .before .put-maker .ensures ∙ ap (λ (x : List ℕ). putBytes (bytesOf (makerFields t)) x 10) identity in
+    let space = c .before .before .before .before .before .before .before .before .before .before .before .before .before .before .put-space .ensures ∙ ap (λ (x : List ℕ). putBytes (bytesOf (spaceFields t)) x 36) maker in
+    (λ i. putMid 92 20 (putMid 72 20 (putMid 52 20 (space i) ((c .before .before .before .before .before .before .before .before .before .before .put-structure .ensures ∙ ap part (c .before .before .before .before .before .before .before .before .before .before .before .before .before .before .before .before .before .before .before .before .before .before .before .before .before .before .before .own .ensures)) i)) ((c .before .before .before .before .before .before .put-structure2 .ensures ∙ ap part (c .before .before .before .before .before .before .before .before .before .before .before .before .before .before .before .before .before .before .before .before .before .before .before .before .before .before .own2 .ensures)) i)) ((c .before .before .put-structure3 .ensures ∙ ap part (c .before .before .before .before .before .before .before .before .before .before .before .before .before .before .before .before .before .before .before .before .before .before .before .before .before .own3 .ensures)) i))
+    ∙ fields-written (checksumOf t) t (now (c .before .before .before .before .before .before .before .before .before .before .before .before .before .before .before .before .before .before .before .before .before .before .before .before .before .before .before .before .before .args .buf)) (c .before .before .before .before .before .before .before .before .before .before .before .before .before .before .before .before .before .before .before .before .before .before .before .before .before .before .before .before .before .pre)
 
 pub put-table-spec : {M : Type 1} → statement M
 put-table-spec =
     tie.close
     (tie.spec
-    put-fields-requires
-    slice-reshare-prefix-byte-sum
-    slice-aggregate-byte-sum
-    byte-sum-requires
-    cast-put8
-    sub-put8
-    cast-put8-2
-    put8-requires
+    own-requires
+    own-requires-2
+    own-requires-3
+    checksum-requires
+    put-identity-requires
+    put-maker-requires
+    put-space-requires
+    sub-put-structure
+    part-put-structure-start
+    part-put-structure-end
+    put-structure-requires
+    sub-put-structure-2
+    part-put-structure-start-2
+    part-put-structure-end-2
+    put-structure-requires-2
+    sub-put-structure-3
+    part-put-structure-start-3
+    part-put-structure-end-3
+    put-structure-requires-3
     same-length
     returns)
