@@ -10,7 +10,7 @@ use std::process::ExitCode;
 const HELP: &str = "\
 bench: the proved library beside the second program and a plain reading of document 01 in C, doing the same work in turn.
 
-  bench [--rounds N] [--row NAME]...   four tables: memory, stack, times and their ratios, growth
+  bench [--rounds N] [--row NAME]...   four tables: memory, times and their ratios, growth, stack
   bench --stack                        the table of stack alone: how much each call of the library takes at its deepest
   bench --quick                        no times: every row once, to see that the three give the same answers
   bench --list                         for each row its name, a small n, and what is done
@@ -162,8 +162,6 @@ fn tables(rounds: usize, named: &[&'static Row]) -> Result<(), String> {
             println!("{}", report::memory_line(way, &memory::measure(way)?));
         }
         println!();
-        stack_table()?;
-        println!();
     }
     println!("{}", report::times_head());
     for row in rows {
@@ -177,6 +175,11 @@ fn tables(rounds: usize, named: &[&'static Row]) -> Result<(), String> {
             .map(|n| Ok((*n, measured(row, *n, rounds)?)))
             .collect();
         println!("{}", report::growth_line(row, &all?));
+    }
+    // The stack last: from the first thread that is started on, an emulator orders every access to memory, and each takes longer.
+    if named.is_empty() {
+        println!();
+        stack_table()?;
     }
     Ok(())
 }
