@@ -150,8 +150,10 @@ check_benchmarks() {
 
 # The library takes at most a tenth more instructions beside plain C than docs/BENCHMARKS.md says. Times decide nothing.
 check_instructions() {
-    local counted=$root/host/target/counted-instructions
+    local counted=$root/host/target/counted-instructions page=$root/docs/BENCHMARKS.md tenths
     choose_compilers
-    count_rows_of_page "$root/host/target/$rust_target/release/bench" "$root/docs/BENCHMARKS.md" >"$counted" || return
-    hold_to_page "$counted" "$root/docs/BENCHMARKS.md"
+    tenths=$(tenths_allowed "$page" "$(makers)")
+    [ "$tenths" = 1 ] || echo "the page's counts are of other compilers than $(makers): a row fails where it is more than $tenths tenths above it"
+    count_rows_of_page "$root/host/target/$rust_target/release/bench" "$page" >"$counted" || return
+    hold_to_page "$counted" "$page" "$tenths"
 }
