@@ -4,7 +4,7 @@ ghost use mathlib.Core.Path.{_≡_};
 ghost use mathlib.Core.List.{[]};
 ghost use Rattle.lent.specs.Lent.{numberOf, numberLeft, wordsLeft, bytesLeft, layNumber};
 ghost use Rattle.guids.specs.Table.{tableOf, findOf, entryOf};
-ghost use Rattle.guids.specs.Write.{startOf, startedBy, extendOf, extendedBy};
+ghost use Rattle.guids_build.specs.Write.{startOf, startedBy, extendOf, extendedBy};
 ghost use Rattle.guid_words.specs.GuidTable.{layTotals, layGuidMatch, layGuidEntry, guidOf};
 use guids::Checked;
 use guids::Guid;
@@ -70,7 +70,7 @@ pub fn start(buf: &mut [u8]) -> u64
     ensures { λ r. ⌜ r ≡ numberOf (startOf (now (buf .entry))) ⌝ }
     ensures { λ _. ⌜ now (buf .exit) ≡ startedBy (now (buf .entry)) (startOf (now (buf .entry))) ⌝ }
 {
-    match guids::start(buf) {
+    match guids_build::start(buf) {
         Total::Given(_) => 0,
         Total::Refused(why) => why.number as u64,
     }
@@ -80,7 +80,7 @@ pub fn start(buf: &mut [u8]) -> u64
 fn extend_without_words(buf: &[u8], bytes: &[u8]) -> u64
     ensures { λ r. ⌜ r ≡ numberLeft layNumber (extendOf (now (buf .entry)) (now (bytes .entry))) [] ⌝ }
 {
-    match guids::admit(buf, bytes) {
+    match guids_build::admit(buf, bytes) {
         Total::Given(_) => 12,
         Total::Refused(why) => why.number as u64,
     }
@@ -95,7 +95,7 @@ pub fn extend(buf: &mut [u8], low: u64, high: u64, bytes: &[u8], words: &mut [u6
     if words.len() < 1 {
         return extend_without_words(buf, bytes);
     }
-    match guids::extend(
+    match guids_build::extend(
         buf,
         Guid {
             low: low,

@@ -1,35 +1,27 @@
--- The ends of entries and of the table: written, read where they were put, and put where they were read. Assumes nothing.
-use mathlib.Core.Path.{_≡_, refl, sym, ap, subst, _∙_}
+-- The ends of entries and of the table: read where they were put, and put where they were read. Assumes nothing.
+use mathlib.Core.Path.{_≡_, refl, ap, _∙_}
 use mathlib.Core.List.{List, [], _∷_, _++_}
 use Prim.Native.Nat.{ℕ, _+_, _^_, _<_, _≤_}
-use native.Mathlib.Omega.{arith}
 use lib.ListN.{length, take, drop}
-use Rattle.le.specs.Le.{leAt, leBytes, putBytes, putAt, Bytes, Number, bytesOf}
+use Rattle.le.specs.Le.{leAt, leBytes, Bytes, Number, bytesOf}
 use Rattle.le.specs.Back.{Held}
-use Rattle.le.proofs.Numbers.{puts-all, held, held-again}
+use Rattle.le.proofs.Numbers.{held, held-again}
 use Rattle.guids.specs.declared.Guid.{Guid}
-use Rattle.guids.specs.Table.{guidAt}
-use Rattle.guids.specs.Write.{endBytes}
+use Rattle.guids.specs.Table.{guidAt, endBytes}
 use Rattle.guids.specs.Layout.{Sixteen}
 
 -- an end's numbers: a length, and the two halves of a GUID
-abbrev numbers : ℕ → Guid → List Number
+abbrev pub numbers : ℕ → Guid → List Number
 numbers n g = record { bytes = 2; value = n } ∷ record { bytes = 8; value = g .low } ∷ record { bytes = 8; value = g .high } ∷ []
 
 module _ (n : ℕ) (g : Guid) where
-  end-is : endBytes n g ≡ bytesOf (numbers n g)
+  pub end-is : endBytes n g ≡ bytesOf (numbers n g)
   unfolding bytesOf leBytes
   end-is = refl
 
   pub length-end : length (endBytes n g) ≡ 18
   unfolding leBytes
   length-end = refl
-
-  -- written one behind the other
-  pub put-end : (s : List ℕ) (o : ℕ) → o + 18 ≤ length s → putAt 8 (g .high) (putAt 8 (g .low) (putAt 2 n s o) (o + 2)) (o + 10) ≡ putBytes (endBytes n g) s o
-  put-end s o h =
-      ap (putAt 8 (g .high) (putAt 8 (g .low) (putAt 2 n s o) (o + 2))) (omega arith)
-      ∙ puts-all (numbers n g) s o (rw (← end-is, length-end) h) ∙ ap (λ (x : List ℕ). putBytes x s o) (sym end-is)
 
   -- the length and the GUID that an end behind xs in s holds
   pub end-here : (s xs ys : List ℕ) (o : ℕ) → length xs ≡ o → s ≡ xs ++ (endBytes n g ++ ys) → n < 2 ^ 16 → Sixteen g → (leAt 2 s o ≡ n) × (guidAt s (o + 2) ≡ g)

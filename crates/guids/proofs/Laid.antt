@@ -14,8 +14,7 @@ use Rattle.reply.specs.Reply.{given}
 use Rattle.reply.proofs.ReplyLaws.{then-given}
 use Rattle.guids.specs.declared.Guid.{Guid}
 use Rattle.guids.specs.declared.Entry.{Entry}
-use Rattle.guids.specs.Table.{guidAt, footer, totalAt, headerOf, lengthBefore, entryBefore, entriesBefore, entriesUnder, entriesOf}
-use Rattle.guids.specs.Write.{endBytes, entryBytes}
+use Rattle.guids.specs.Table.{guidAt, footer, endBytes, entryBytes, totalAt, headerOf, lengthBefore, entryBefore, entriesBefore, entriesUnder, entriesOf}
 use Rattle.guids.specs.Layout.{Item, itemsBytes, totalOf, Sixteen, Whole, Laid, entriesAt, itemOf, itemsOf, TableAcceptance}
 use Rattle.guids.proofs.Walk.{footer-is, Header, header-facts, walk-end, walk-step, Entries, none, entry, walk-only}
 use Rattle.guids.proofs.Here.{length-end, end-here, end-back}

@@ -7,8 +7,7 @@ use Rattle.le.specs.Le.{Bytes}
 use Rattle.reply.specs.Reply.{Reply, given, then}
 use Rattle.guids.specs.declared.Guid.{Guid}
 use Rattle.guids.specs.declared.Entry.{Entry}
-use Rattle.guids.specs.Table.{footer, entriesOf}
-use Rattle.guids.specs.Write.{endBytes, entryBytes}
+use Rattle.guids.specs.Table.{footer, endBytes, entryBytes, entriesOf}
 
 -- what an entry holds: its GUID, and its data
 pub record Item : Type 0 where

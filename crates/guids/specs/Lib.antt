@@ -1,5 +1,3 @@
 pub mod Table
-pub mod Write
 pub mod Layout
 pub mod Found
-pub mod Back

@@ -39,6 +39,14 @@ footerBytes =
 unfoldable pub footer : Guid
 footer = guidAt footerBytes 0
 
+-- what the table and each entry end with: a length in two bytes, and a GUID
+abbrev pub endBytes : ℕ → Guid → List ℕ
+endBytes n g = leBytes 2 n ++ guidBytes g
+
+-- an entry's bytes: the data, then its length, which counts data, itself and the GUID, and its GUID
+abbrev pub entryBytes : Guid → List ℕ → List ℕ
+entryBytes g bytes = bytes ++ endBytes (length bytes + 18) g
+
 -- the total T, in two bytes at L - 50
 abbrev pub totalAt : List ℕ → ℕ
 totalAt s = leAt 2 s (length s - 50)

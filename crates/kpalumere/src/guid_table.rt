@@ -3,7 +3,7 @@
 ghost use mathlib.Core.Path.{_≡_};
 ghost use Rattle.lent.specs.Lent.{numberOf, numberLeft, wordsLeft, bytesLeft, layNumber};
 ghost use Rattle.guids.specs.Table.{tableOf, findOf, entryOf};
-ghost use Rattle.guids.specs.Write.{startOf, startedBy, extendOf, extendedBy};
+ghost use Rattle.guids_build.specs.Write.{startOf, startedBy, extendOf, extendedBy};
 ghost use Rattle.guid_words.specs.GuidTable.{layTotals, layGuidMatch, layGuidEntry, guidOf};
 
 // Two words: the table's total, and the number of its entries.

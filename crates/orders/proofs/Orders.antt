@@ -14,7 +14,7 @@ use Rattle.aspt.specs.Rules.{sumOf, fresh, idFits, registersFit, structureCheck
 use Rattle.aspt.specs.Bytes.{reservedZero, foundIn, ownOf, partBytes, bytesWith, tableBytes}
 use Rattle.aspt.specs.Calls.{headerChecks, tableOf, readOf, admitOf, writeOf}
 use Rattle.guids.specs.Table.{footer, headerOf, lengthBefore, entriesIn}
-use Rattle.guids.specs.Write.{startOf as guidStartOf, allZero, roomFor as guidRoomFor}
+use Rattle.guids_build.specs.Write.{startOf as guidStartOf, allZero, roomFor as guidRoomFor}
 use Rattle.firmware.specs.Word.{wordOf}
 use Rattle.firmware.specs.Rules.{deliveryOf, ruleOf}
 use Rattle.mailbox.specs.Consistent.{fitPosts, fitRegister, timesIn, inRegister, allBelow, consistentOf}

@@ -12,7 +12,7 @@ use Rattle.place.specs.Place.{placedAt}
 use Rattle.build.specs.Write.{entryBytes, startOf, extendOf, roomFor}
 use Rattle.aspt.specs.Calls.{readOf, writeOf}
 use Rattle.guids.specs.Table.{tableOf}
-use Rattle.guids.specs.Write.{startOf as guidStartOf, roomFor as guidRoomFor}
+use Rattle.guids_build.specs.Write.{startOf as guidStartOf, roomFor as guidRoomFor}
 use Rattle.firmware.specs.Word.{statusIn}
 use Rattle.firmware.specs.Rules.{runOf}
 use Rattle.mailbox.specs.Calls.{postOf, takeOf}

@@ -7,8 +7,7 @@ use Rattle.aspt.specs.Rules.{sumOf}
 use Rattle.aspt.specs.Bytes.{tableBytes}
 use Rattle.aspt.specs.declared.Structure.{Structure}
 use Rattle.aspt.specs.declared.Table.{Table}
-use Rattle.guids.specs.Table.{footer}
-use Rattle.guids.specs.Write.{endBytes}
+use Rattle.guids.specs.Table.{footer, endBytes}
 use Rattle.orders.specs.Images.{Row, row, zeros}
 
 -- ---- an ASPT of one page, with structures of type 1, 0 and 2

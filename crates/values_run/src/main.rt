@@ -64,10 +64,10 @@ fn three_entries() {
         low: 0x4B04_3A3B_7255_371F,
         high: 0x54D4_A8EF_A61D_7B92,
     };
-    show_guid_total(guids::start(&mut image));
-    show_guid_total(guids::extend(&mut image, reset, &short));
-    show_guid_total(guids::extend(&mut image, secret, &long));
-    show_guid_total(guids::extend(&mut image, hashes, &long));
+    show_guid_total(guids_build::start(&mut image));
+    show_guid_total(guids_build::extend(&mut image, reset, &short));
+    show_guid_total(guids_build::extend(&mut image, secret, &long));
+    show_guid_total(guids_build::extend(&mut image, hashes, &long));
     show_guids(&image);
     le::put16(&mut image, 142, 0x72);
     show_guids(&image);

@@ -4,7 +4,7 @@ use denote.Ref.{now}
 use Rattle.lent.specs.Lent.{numberLeft, wordsLeft, bytesLeft, layNumber}
 use Rattle.lent.proofs.Laws.{given-number, given-words, alone-number, alone-words}
 use Rattle.guids.specs.Table.{toldTotal}
-use Rattle.guids.specs.Write.{extendOf, extendedBy}
+use Rattle.guids_build.specs.Write.{extendOf, extendedBy}
 use Rattle.guid_words.specs.GuidTable.{guidOf}
 use Rattle.lent.proofs.Changed.{given-bytes, alone-bytes, no-words, words-none, bytes-none}
 use borrow.Author.Needs.{needs}

@@ -7,12 +7,12 @@ use lib.ListN.{length}
 use Rattle.le.specs.Le.{putBytes, putAt}
 use Rattle.le.proofs.Put.{put-join}
 use Rattle.le.proofs.Back.{put-long}
-use Rattle.guids.specs.Write.{endBytes}
+use Rattle.guids.specs.Table.{endBytes}
 use Rattle.guids.proofs.Here.{length-end}
-use Rattle.guids.proofs.Writing.{Room, room-facts}
+use Rattle.guids_build.proofs.Writing.{Room, room-facts}
 use borrow.Author.Needs.{needs}
-use Rattle.guids.proofs.append.Statement.{statement}
-use Rattle.guids.proofs.append.Tie as tie
+use Rattle.guids_build.proofs.append.Statement.{statement}
+use Rattle.guids_build.proofs.append.Tie as tie
 
 -- the buffer once the total and the data are written, and its length
 written : (c : tie.After-put-end-arg) → let a = c .before .before .before .before .before .before .before .before .before .before .before .args in let s = now (a .buf) in

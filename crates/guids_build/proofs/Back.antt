@@ -14,17 +14,17 @@ use Rattle.le.proofs.Put.{put-some, length-leBytes}
 use Rattle.le.proofs.Back.{put-long, put-over}
 use Rattle.reply.specs.Reply.{Reply, given, then}
 use Rattle.reply.proofs.ReplyLaws.{past, then-given, apart}
 use Rattle.guids.specs.declared.Guid.{Guid}
 use Rattle.guids.specs.declared.Entry.{Entry}
 use Rattle.guids.specs.declared.Totals.{Totals}
-use Rattle.guids.specs.Table.{guidBytes, footer, totalAt, entriesOf, totalsOf, tableOf}
-use Rattle.guids.specs.Write.{endBytes, startOf, startedBy, entryBytes, allZero, roomFor, extendOf, extendedBy}
+use Rattle.guids.specs.Table.{guidBytes, footer, endBytes, entryBytes, totalAt, entriesOf, totalsOf, tableOf}
+use Rattle.guids_build.specs.Write.{startOf, startedBy, allZero, roomFor, extendOf, extendedBy}
 use Rattle.guids.specs.Layout.{Item, itemsBytes, totalOf, imageOf, Sixteen, Whole, Laid, entriesAt, itemOf, itemsOf}
-use Rattle.guids.specs.Back.{started, StartGives, Extendable, ExtendAcceptance, ExtendAdds, extendAll, ItemsBack, cleared, SameAgain}
+use Rattle.guids_build.specs.Back.{started, StartGives, Extendable, ExtendAcceptance, ExtendAdds, extendAll, ItemsBack, cleared, SameAgain}
 use Rattle.guids.proofs.Walk.{listOf, good-table}
-use Rattle.guids.proofs.Writing.{start-some, room-facts}
+use Rattle.guids_build.proofs.Writing.{start-some, room-facts}
 use Rattle.guids.proofs.Here.{length-end}
 use Rattle.guids.proofs.Laid.{length-entry, laid-length, laid-total, laid-entries, laid-items, items-laid}
 
 -- the bytes of two lists of items: the second lies farther from the footer
 items-append : (xs ys : List Item) → itemsBytes (xs ++ ys) ≡ itemsBytes ys ++ itemsBytes xs

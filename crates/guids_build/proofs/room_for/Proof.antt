@@ -4,10 +4,10 @@ use native.Mathlib.Omega.{arith}
 use denote.Ref.{now}
 use lib.ListN.{length, take, drop}
 use borrow.Author.Tests.{le-leb, lt-leb}
-use Rattle.guids.specs.Write.{allZero, roomFor}
+use Rattle.guids_build.specs.Write.{allZero, roomFor}
 use borrow.Author.Needs.{needs}
-use Rattle.guids.proofs.room_for.Statement.{statement}
-use Rattle.guids.proofs.room_for.Tie as tie
+use Rattle.guids_build.proofs.room_for.Statement.{statement}
+use Rattle.guids_build.proofs.room_for.Tie as tie
 
 -- the test of the bytes to be used, as the definition has it
 zeros : (c : tie.After-all-zero) → let a = c .before .before .before .before .before .args in let s = now (a .buf) in

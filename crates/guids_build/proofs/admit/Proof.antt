@@ -5,13 +5,13 @@ use denote.Ref.{now}
 use lib.ListN.{length}
 use Rattle.reply.specs.Reply.{given}
 use Rattle.reply.proofs.ReplyLaws.{then-told}
 use Rattle.guids.specs.declared.Totals.{Totals}
 use Rattle.guids.specs.Table.{toldTable}
-use Rattle.guids.specs.Write.{roomFor}
+use Rattle.guids_build.specs.Write.{roomFor}
 use Rattle.guids.proofs.Walk.{good-table}
 use borrow.Author.Needs.{needs}
-use Rattle.guids.proofs.admit.Statement.{statement}
-use Rattle.guids.proofs.admit.Tie as tie
+use Rattle.guids_build.proofs.admit.Statement.{statement}
+use Rattle.guids_build.proofs.admit.Tie as tie
 
 table-requires : tie.Need-table-requires
 table-requires c κs = search needs

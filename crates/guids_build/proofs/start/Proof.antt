@@ -4,12 +4,13 @@ use Prim.Native.Nat.{_-_}
 use denote.Ref.{now}
 use lib.ListN.{length}
 use Rattle.le.specs.Le.{putBytes}
-use Rattle.guids.specs.Write.{endBytes, startedBy}
+use Rattle.guids.specs.Table.{endBytes}
+use Rattle.guids_build.specs.Write.{startedBy}
 use Rattle.guids.proofs.Walk.{footer-is}
-use Rattle.guids.proofs.Writing.{start-none, start-some}
+use Rattle.guids_build.proofs.Writing.{start-none, start-some}
 use borrow.Author.Needs.{needs}
-use Rattle.guids.proofs.start.Statement.{statement}
-use Rattle.guids.proofs.start.Tie as tie
+use Rattle.guids_build.proofs.start.Statement.{statement}
+use Rattle.guids_build.proofs.start.Tie as tie
 
 returns : tie.Need-returns
 returns c =

@@ -1,17 +1,13 @@
 -- Starting and extending a GUID table, in document 01's words and order. Assumes nothing: these are definitions.
 use Prim.Native.Nat.{ℕ, _+_, _-_}
-use mathlib.Core.List.{List, [], _∷_, _++_}
+use mathlib.Core.List.{List, [], _∷_}
 use mathlib.Core.Bool.{Bool, true, _&&_}
 use lib.ListN.{length, take, drop}
 use lib.Dec.{leb, eqb}
-use Rattle.le.specs.Le.{leBytes, putBytes, putAt}
+use Rattle.le.specs.Le.{putBytes, putAt}
 use Rattle.reply.specs.Reply.{Reply, given, refused, guard, then}
 use Rattle.guids.specs.declared.Guid.{Guid}
-use Rattle.guids.specs.Table.{guidBytes, footer, tableOf}
-
--- what the table and each entry end with: a length in two bytes, and a GUID
-abbrev pub endBytes : ℕ → Guid → List ℕ
-endBytes n g = leBytes 2 n ++ guidBytes g
+use Rattle.guids.specs.Table.{footer, endBytes, entryBytes, tableOf}
 
 -- start: the total of the table with no entries
 unfoldable pub startOf : List ℕ → Reply ℕ
@@ -21,10 +17,6 @@ startOf s = guard (leb 50 (length s)) 12 (given 18)  -- L at least 50 (12)
 abbrev pub startedBy : List ℕ → Reply ℕ → List ℕ
 startedBy s (given total) = putBytes (endBytes total footer) s (length s - 50)
 startedBy s (refused number carried) = s
-
--- an entry's bytes: the data, then its length, which counts data, itself and the GUID, and its GUID
-abbrev pub entryBytes : Guid → List ℕ → List ℕ
-entryBytes g bytes = bytes ++ endBytes (length bytes + 18) g
 
 unfoldable pub allZero : List ℕ → Bool
 allZero [] = true

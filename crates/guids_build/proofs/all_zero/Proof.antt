@@ -4,10 +4,10 @@ use Prim.Native.Nat.{_-_, _≤_}
 use native.Mathlib.Omega.{arith}
 use denote.Ref.{now}
 use lib.ListN.{length, drop}
-use Rattle.guids.specs.Write.{allZero}
-use Rattle.guids.proofs.Writing.{zero-step, zero-stop, zero-end}
-use Rattle.guids.proofs.all_zero.Statement.{statement}
-use Rattle.guids.proofs.all_zero.Tie as tie
+use Rattle.guids_build.specs.Write.{allZero}
+use Rattle.guids_build.proofs.Writing.{zero-step, zero-stop, zero-end}
+use Rattle.guids_build.proofs.all_zero.Statement.{statement}
+use Rattle.guids_build.proofs.all_zero.Tie as tie
 
 abbrev Inv-loop : tie.InvT-loop
 Inv-loop bytes i₀ i =

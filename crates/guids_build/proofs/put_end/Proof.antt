@@ -1,8 +1,8 @@
 use denote.Ref.{now}
-use Rattle.guids.proofs.Here.{put-end}
+use Rattle.guids_build.proofs.Writing.{put-end}
 use borrow.Author.Needs.{needs}
-use Rattle.guids.proofs.put_end.Statement.{statement}
-use Rattle.guids.proofs.put_end.Tie as tie
+use Rattle.guids_build.proofs.put_end.Statement.{statement}
+use Rattle.guids_build.proofs.put_end.Tie as tie
 
 put16-requires : tie.Need-put16-requires
 put16-requires c κs = search needs

@@ -1,10 +1,10 @@
 use mathlib.Core.Path.{sym, ap, _∙_}
 use denote.Ref.{now}
 use Rattle.guids.specs.Table.{toldTotal}
-use Rattle.guids.specs.Write.{extendedBy}
+use Rattle.guids_build.specs.Write.{extendedBy}
 use borrow.Author.Needs.{needs}
-use Rattle.guids.proofs.extend.Statement.{statement}
-use Rattle.guids.proofs.extend.Tie as tie
+use Rattle.guids_build.proofs.extend.Statement.{statement}
+use Rattle.guids_build.proofs.extend.Tie as tie
 
 admit-requires : tie.Need-admit-requires
 admit-requires c κs = search needs

@@ -5,12 +5,12 @@ use mathlib.Core.List.{List, [], _∷_, _++_}
 use lib.ListN.{length, replicate}
 use Rattle.le.specs.Le.{putBytes, Bytes}
 use Rattle.reply.specs.Reply.{Reply, given, then}
 use Rattle.guids.specs.declared.Guid.{Guid}
 use Rattle.guids.specs.declared.Entry.{Entry}
 use Rattle.guids.specs.declared.Totals.{Totals}
 use Rattle.guids.specs.Table.{totalAt, entriesOf, tableOf}
-use Rattle.guids.specs.Write.{startOf, startedBy, extendOf, extendedBy}
+use Rattle.guids_build.specs.Write.{startOf, startedBy, extendOf, extendedBy}
 use Rattle.guids.specs.Layout.{Item, totalOf, Sixteen, Whole, Laid, itemsOf}
 
 -- an image as a start leaves it
 abbrev pub started : List ℕ → List ℕ
