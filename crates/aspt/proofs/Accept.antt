@@ -1,19 +1,20 @@
--- What is accepted, both ways: for one structure, for three, and for the two calls. Assumes nothing.
+-- What is accepted, both ways: for one structure, for three, for bytes that are read and for a table that is to be written. Assumes nothing.
 use mathlib.Core.Path.{_≡_, refl, sym, ap, subst, _∙_}
 use mathlib.Core.Bool.{Bool, true, false, cond, not, _&&_, and-eq-true-iff}
-use mathlib.Core.List.{List, [], _∷_}
+use mathlib.Core.List.{List, [], _∷_, _++_}
 use Prim.Native.Nat.{ℕ, _+_, _*_, _%_, _^_, _≤_}
 use native.Mathlib.Omega.{arith}
-use lib.ListN.{length, take}
+use lib.ListN.{length, take, length-append}
+use lib.Seq.{take-at, take-all}
 use lib.Dec.{leb, eqb}
 use borrow.Author.Tests.{le-leb, leb-true, eq-eqb, ne-eqb, eqb-true, eqb-false, not-true}
 use Rattle.le.specs.Le.{leAt}
-use Rattle.reply.specs.Reply.{Reply, given, alone, check, then}
-use Rattle.reply.proofs.ReplyLaws.{past, passed, then-given}
+use Rattle.reply.specs.Reply.{Reply, given}
+use Rattle.reply.proofs.ReplyLaws.{past, passed}
 use Rattle.aspt.specs.Rules.{done, sumOf, fresh, idFits, inSpace, registersFit, structureChecks, structuresChecks}
 use Rattle.aspt.specs.Bytes.{reservedZero, foundIn, asGiven, partOf, tableIn}
-use Rattle.aspt.specs.Calls.{headerChecks, tableOf, readOf, admitOf, writeOf}
-use Rattle.aspt.specs.Good.{GoodStructure, GoodTable, GoodPart, Holds, ReadAcceptance, WriteAcceptance}
+use Rattle.aspt.specs.Calls.{headerChecks, tableOf, readOf, admitOf}
+use Rattle.aspt.specs.Good.{GoodStructure, GoodTable, GoodPart, Holds, ReadAcceptance, RestIgnored}
 use Rattle.aspt.specs.declared.Structure.{Structure}
 use Rattle.aspt.specs.declared.Found.{Found}
 use Rattle.aspt.specs.declared.Table.{Table}
@@ -211,6 +212,15 @@ read-acceptance = record {
   all = λ s t long h. passed _ _ _ _ (le-leb 112 (length s) long) ∙ table-all (take 112 s) t h;
 }
 
+pub rest-ignored : RestIgnored
+unfolding readOf
+rest-ignored = record {
+  rest = λ s rest long.
+      passed _ _ _ _ (le-leb 112 (length (s ++ rest)) (omega (arith, length-append s rest)))
+      ∙ ap tableOf (take-at s rest 112 long ∙ sym (take-all 112 s (omega arith)))
+      ∙ sym (passed _ _ _ _ (le-leb 112 (length s) (omega arith)));
+}
+
 -- a table that is to be written
 pub admit-only : (t : Table) → admitOf t ≡ done → GoodTable t
 unfolding admitOf
@@ -225,12 +235,3 @@ unfolding admitOf
 admit-all t g =
     passed _ _ _ _ (eq-eqb _ _ (g .aligned)) ∙ passed _ _ _ _ (le-leb _ _ (g .ends))
     ∙ structures-all (t .pages) _ _ _ _ (good-all t (asGiven (t .first)) (asGiven (t .second)) (asGiven (t .third)) refl refl refl g (refl, refl) (refl, refl) (refl, refl))
-
-pub write-acceptance : WriteAcceptance
-unfolding writeOf
-write-acceptance = record {
-  only = λ t s e.
-      let g = then-given (admitOf t) _ e in
-      (admit-only t (g .1), leb-true 112 (length s) (past (leb 112 (length s)) _ _ _ (g .2) .0));
-  all = λ t s g room. ap (λ (r : Reply Unit). then r (λ _. check (leb 112 (length s)) 12 alone done)) (admit-all t g) ∙ passed _ _ _ _ (le-leb 112 (length s) room);
-}

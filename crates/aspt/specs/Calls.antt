@@ -1,13 +1,13 @@
--- The two calls: what a read gives, what a write answers, and the bytes that it leaves. Assumes nothing: these are definitions.
-use Prim.Native.Nat.{ℕ, _+_, _%_}
-use mathlib.Core.List.{List, _++_}
-use lib.ListN.{length, take, drop}
+-- What a read gives, and what a table that is to be written is asked. Assumes nothing: these are definitions.
+use Prim.Native.Nat.{ℕ, _%_}
+use mathlib.Core.List.{List}
+use lib.ListN.{length, take}
 use lib.Dec.{leb, eqb}
-use Rattle.reply.specs.Reply.{Reply, given, refused, alone, guard, then}
+use Rattle.reply.specs.Reply.{Reply, given, refused, alone, guard}
 use Rattle.aspt.specs.Field.{get}
 use Rattle.aspt.specs.Header as header
 use Rattle.aspt.specs.Rules.{done, sumOf, spaceChecks, structuresChecks}
-use Rattle.aspt.specs.Bytes.{partOf, foundIn, asGiven, tableIn, tableBytes}
+use Rattle.aspt.specs.Bytes.{partOf, foundIn, asGiven, tableIn}
 use Rattle.aspt.specs.declared.Table.{Table}
 use Rattle.aspt.specs.declared.Reading.{Reading}
 use Rattle.aspt.specs.declared.Reading.the-variants as reading
@@ -42,21 +42,12 @@ admitOf t =
     spaceChecks (t .base) (t .pages)
     (structuresChecks (t .pages) (asGiven (t .first)) (asGiven (t .second)) (asGiven (t .third)) done)
 
--- writing a table into a lent buffer
-unfoldable pub writeOf : Table → List ℕ → Reply Unit
-writeOf t s = then (admitOf t) (λ _. guard (leb 112 (length s)) 12 done)  -- the checks, then room (12)
-
--- the buffer after it: the table's 112 bytes and the bytes after them, or all as it was where refused
-abbrev pub writtenBy : Table → List ℕ → Reply Unit → List ℕ
-writtenBy t s (given _) = tableBytes t ++ drop 112 s
-writtenBy t s (refused number carried) = s
-
 -- what a read's answer tells
 abbrev pub toldReading : Reading → Reply Table
 toldReading (reading.Given t) = given t
 toldReading (reading.Refused why) = refused (why .number) alone
 
--- what a write's answer tells
+-- what the answer of checks tells, and that of a write
 abbrev pub toldVerdict : Verdict → Reply Unit
 toldVerdict verdict.Accepted = done
 toldVerdict (verdict.Refused why) = refused (why .number) alone

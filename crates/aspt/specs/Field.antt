@@ -1,7 +1,7 @@
 -- A field of a layout: so many bytes, from so many bytes on. Assumes nothing: these are definitions.
 use Prim.Native.Nat.{ℕ}
 use mathlib.Core.List.{List}
-use Rattle.le.specs.Le.{leAt, Number}
+use Rattle.le.specs.Le.{leAt}
 
 -- byte length and byte offset, the columns of source 000's tables
 pub record Field : Type 0 where
@@ -14,7 +14,3 @@ field bytes at = record { bytes = bytes; at = at }
 -- what the field holds in s
 abbrev pub get : Field → List ℕ → ℕ
 get f s = leAt (f .bytes) s (f .at)
-
--- what a field is to hold, in its bytes; that fields which follow one another each lie at their offset is part of WrittenReadBack (Back.antt)
-abbrev pub filled : Field → ℕ → Number
-filled f v = record { bytes = f .bytes; value = v }

@@ -1,15 +1,15 @@
--- What makes a table good, as plain facts; and that the calls accept exactly that. Assumes nothing: definitions and statements.
+-- What makes a table good, as plain facts; and that a read accepts exactly that. Assumes nothing: definitions and statements.
 use Prim.Native.Nat.{ℕ, _+_, _*_, _%_, _^_, _≤_}
 use mathlib.Core.Path.{_≡_}
-use mathlib.Core.List.{List}
+use mathlib.Core.List.{List, _++_}
 use lib.ListN.{length, take}
 use Rattle.reply.specs.Reply.{given}
 use Rattle.aspt.specs.Field.{get}
 use Rattle.aspt.specs.Header as header
 use Rattle.aspt.specs.Part as part
-use Rattle.aspt.specs.Rules.{done, sumOf}
+use Rattle.aspt.specs.Rules.{sumOf}
 use Rattle.aspt.specs.Bytes.{partOf, tableIn}
-use Rattle.aspt.specs.Calls.{readOf, writeOf}
+use Rattle.aspt.specs.Calls.{readOf}
 use Rattle.aspt.specs.declared.Structure.{Structure}
 use Rattle.aspt.specs.declared.Table.{Table}
 
@@ -57,7 +57,6 @@ pub record ReadAcceptance : Type 0 where
   pub only : (s : List ℕ) (t : Table) → readOf s ≡ given t → (112 ≤ length s) × Holds (take 112 s) t
   pub all : (s : List ℕ) (t : Table) → 112 ≤ length s → Holds (take 112 s) t → readOf s ≡ given t
 
--- a table is written exactly where it is good and has room
-pub record WriteAcceptance : Type 0 where
-  pub only : (t : Table) (s : List ℕ) → writeOf t s ≡ done → GoodTable t × (112 ≤ length s)
-  pub all : (t : Table) (s : List ℕ) → GoodTable t → 112 ≤ length s → writeOf t s ≡ done
+-- bytes after the 112 are ignored
+pub record RestIgnored : Type 0 where
+  pub rest : (s rest : List ℕ) → length s ≡ 112 → readOf (s ++ rest) ≡ readOf s

@@ -5,4 +5,3 @@ pub mod Rules
 pub mod Bytes
 pub mod Calls
 pub mod Good
-pub mod Back

@@ -1,15 +1,14 @@
-// The AMD Secure Processor Table (source 000), an ACPI table of 112 bytes: read and written by document 01's rules.
+// The AMD Secure Processor Table (source 000), an ACPI table of 112 bytes: read, and checked before it is written, by document 01's rules.
 // The places of fields are those of the source's tables: Table 3, and for the structures Tables 5, 7 and 8.
 ghost use mathlib.Core.Path.{_≡_};
 ghost use mathlib.Core.Bool.{_&&_};
-ghost use mathlib.Core.List.{[], _∷_, _++_};
-ghost use lib.ListN.{length, drop};
+ghost use mathlib.Core.List.{[], _∷_};
+ghost use lib.ListN.{length};
 ghost use lib.Dec.{leb, eqb};
-ghost use Prim.Native.Nat.{_+_, _*_, _/_, _%_, _^_, _≤_};
-ghost use Rattle.le.specs.Le.{leBytes, putBytes, bytesOf};
+ghost use Prim.Native.Nat.{_+_, _*_, _%_, _^_};
 ghost use Rattle.aspt.specs.Rules.{done, sumOf, fresh, idFits, inSpace, registersFit, structureChecks, structuresChecks};
-ghost use Rattle.aspt.specs.Bytes.{structureIn, reservedZero, foundIn, tableWith, tableIn, asGiven, ownOf, partFields, identityFields, makerFields, spaceFields, checksumOf, tableBytes};
-ghost use Rattle.aspt.specs.Calls.{headerChecks, structuresRead, tableOf, readOf, admitOf, writeOf, writtenBy, toldReading, toldVerdict};
+ghost use Rattle.aspt.specs.Bytes.{structureIn, reservedZero, foundIn, tableWith, tableIn, asGiven};
+ghost use Rattle.aspt.specs.Calls.{headerChecks, structuresRead, tableOf, readOf, admitOf, toldReading, toldVerdict};
 use reply::Refusal;
 
 // One of the three structures: its type, type 1's ID byte, and its register offsets in the order of the source's table.
@@ -60,7 +59,7 @@ pub enum Reading {
     Refused(Refusal),
 }
 
-// What a write answers.
+// What checks answer, and a write.
 pub enum Verdict {
     Accepted,
     Refused(Refusal),
@@ -342,187 +341,12 @@ fn check_structures(pages: u32, a: Structure, b: Structure, c: Structure) -> Ver
 }
 
 // The checks of a table that is to be written.
-fn admit(table: Table) -> Verdict
+pub fn admit(table: Table) -> Verdict
     ensures { λ r. ⌜ toldVerdict r ≡ admitOf table ⌝ }
 {
     if space_fits(table.base, table.pages) {
         check_structures(table.pages, table.first, table.second, table.third)
     } else {
         Verdict::Refused(Refusal::FIELD)
-    }
-}
-
-// A structure with the fields that its type has, and 0 in those that it lacks.
-fn own(st: Structure) -> Structure
-    ensures { λ r. ⌜ r ≡ ownOf st ⌝ }
-{
-    if st.kind == Structure::SEV {
-        return st;
-    }
-    if st.kind == Structure::ACPI {
-        return Structure {
-            kind: st.kind,
-            id: 0,
-            first: st.first,
-            second: 0,
-            third: 0,
-        };
-    }
-    Structure {
-        kind: st.kind,
-        id: 0,
-        first: st.first,
-        second: st.second,
-        third: st.third,
-    }
-}
-
-// Of a number's eight bytes every other one, each with 16 bits of its own.
-fn alternate(x: u64) -> u64
-    ensures { λ r. ⌜ r ≡ x % 0x100 + 0x1_0000 * (x / 0x1_0000 % 0x100) + 0x1_0000_0000 * (x / 0x1_0000_0000 % 0x100) + 0x1_0000_0000_0000 * (x / 0x1_0000_0000_0000 % 0x100) ⌝ }
-{
-    x % 0x100
-        + 0x1_0000 * (x / 0x1_0000 % 0x100)
-        + 0x1_0000_0000 * (x / 0x1_0000_0000 % 0x100)
-        + 0x1_0000_0000_0000 * (x / 0x1_0000_0000_0000 % 0x100)
-}
-
-// A number's eight bytes added up two by two: four sums of at most 0x1FE, with 16 bits each. Such numbers are added as they are, while 16 bits hold each
-// sum; and modulo 65,535, where 2^16 is 1, they are the sum of all their bytes.
-fn pairs(x: u64) -> u64
-    ensures { λ r. ⌜ r % 65535 ≡ sumOf (leBytes 8 x) ⌝ }
-    ensures { λ r. ⌜ r ≤ 0x1FE_01FE_01FE_01FE ⌝ }
-{
-    alternate(x) + alternate(x / 0x100)
-}
-
-// Two numbers of four bytes as one of eight.
-fn joined(low: u32, high: u32) -> u64
-    ensures { λ r. ⌜ r ≡ low + 0x1_0000_0000 * high ⌝ }
-{
-    (low as u64) + 0x1_0000_0000 * (high as u64)
-}
-
-// A structure's type, its length 20, its ID byte and three zeros, which are its first eight bytes, as one number.
-fn front(st: Structure) -> u64
-    ensures { λ r. ⌜ r ≡ st .kind + 0x14_0000 + 0x1_0000_0000 * st .id ⌝ }
-{
-    (st.kind as u64) + 0x14_0000 + 0x1_0000_0000 * (st.id as u64)
-}
-
-// The bytes of two numbers of four bytes, added up like those of one of eight.
-fn joined_pairs(low: u32, high: u32) -> u64
-    ensures { λ r. ⌜ r % 65535 ≡ sumOf (leBytes 4 low) + sumOf (leBytes 4 high) ⌝ }
-    ensures { λ r. ⌜ r ≤ 0x1FE_01FE_01FE_01FE ⌝ }
-{
-    pairs(joined(low, high))
-}
-
-// The bytes before the structures, added up in the same way: 426 is the sum of signature, length and revision, and 3 is the count.
-fn header_pairs(t: Table) -> u64
-    ensures { λ r. ⌜ r % 65535 ≡ sumOf (bytesOf (identityFields 0 ++ (makerFields t ++ spaceFields t))) ⌝ }
-    ensures { λ r. ⌜ r ≤ 0xBF4_0BF4_0BF4_0D9E ⌝ }
-{
-    joined_pairs(t.oem_low, t.oem_high as u32)
-        + pairs(t.oem_table)
-        + joined_pairs(t.oem_revision, t.creator)
-        + joined_pairs(t.creator_revision, 0)
-        + pairs(t.base)
-        + joined_pairs(t.pages, 3)
-        + 426
-}
-
-// A structure's bytes, added up in the same way.
-fn part_pairs(st: Structure) -> u64
-    ensures { λ r. ⌜ r % 65535 ≡ sumOf (bytesOf (partFields st)) ⌝ }
-    ensures { λ r. ⌜ r ≤ 0x5FA_05FA_05FA_05FA ⌝ }
-{
-    pairs(front(st)) + joined_pairs(st.first, st.second) + joined_pairs(st.third, 0)
-}
-
-// The checksum of a table, from its fields and its structures with the fields that they have: bytes that are read right after they are written make the read wait.
-// The 112 bytes come to 28,560 at most, so that modulo 65,535 nothing of their sum is lost.
-fn checksum(t: Table, a: Structure, b: Structure, c: Structure) -> u8
-    requires { ⌜ (a ≡ ownOf (t .first)) × (b ≡ ownOf (t .second)) × (c ≡ ownOf (t .third)) ⌝ }
-    ensures { λ r. ⌜ r ≡ checksumOf t ⌝ }
-{
-    let sum = (header_pairs(t) + part_pairs(a) + part_pairs(b) + part_pairs(c)) % 65535;
-    ((256 - sum % 256) % 256) as u8
-}
-
-// Writes a structure's 20 bytes.
-fn put_structure(part: &mut [u8], st: Structure)
-    requires { ⌜ length (now part) ≡ 20 ⌝ }
-    ensures { λ _. ⌜ now (part .exit) ≡ bytesOf (partFields st) ⌝ }
-{
-    le::put64(part, 0, front(st));
-    le::put64(part, 8, joined(st.first, st.second));
-    le::put32(part, 16, st.third);
-}
-
-// Writes what the table is: signature, length, revision and checksum.
-fn put_identity(buf: &mut [u8], sum: u8)
-    requires { ⌜ 112 ≤ length (now buf) ⌝ }
-    ensures { λ _. ⌜ now (buf .exit) ≡ putBytes (bytesOf (identityFields sum)) (now (buf .entry)) 0 ⌝ }
-{
-    le::put32(buf, 0, Table::SIGNATURE);
-    le::put32(buf, 4, 112);
-    le::put8(buf, 8, 2);
-    le::put8(buf, 9, sum);
-}
-
-// Writes who made the table.
-fn put_maker(buf: &mut [u8], table: Table)
-    requires { ⌜ 112 ≤ length (now buf) ⌝ }
-    ensures { λ _. ⌜ now (buf .exit) ≡ putBytes (bytesOf (makerFields table)) (now (buf .entry)) 10 ⌝ }
-{
-    le::put32(buf, 10, table.oem_low);
-    le::put16(buf, 14, table.oem_high);
-    le::put64(buf, 16, table.oem_table);
-    le::put32(buf, 24, table.oem_revision);
-    le::put32(buf, 28, table.creator);
-    le::put32(buf, 32, table.creator_revision);
-}
-
-// Writes the register space, and how many structures follow.
-fn put_space(buf: &mut [u8], table: Table)
-    requires { ⌜ 112 ≤ length (now buf) ⌝ }
-    ensures { λ _. ⌜ now (buf .exit) ≡ putBytes (bytesOf (spaceFields table)) (now (buf .entry)) 36 ⌝ }
-{
-    le::put64(buf, 36, table.base);
-    le::put32(buf, 44, table.pages);
-    le::put32(buf, 48, 3);
-}
-
-// Writes the table's 112 bytes. What the structures have is found once, for the checksum and for the bytes.
-fn put_table(buf: &mut [u8], table: Table)
-    requires { ⌜ 112 ≤ length (now buf) ⌝ }
-    ensures { λ _. ⌜ now (buf .exit) ≡ tableBytes table ++ drop 112 (now (buf .entry)) ⌝ }
-{
-    let a = own(table.first);
-    let b = own(table.second);
-    let c = own(table.third);
-    put_identity(buf, checksum(table, a, b, c));
-    put_maker(buf, table);
-    put_space(buf, table);
-    put_structure(&mut buf[52..72], a);
-    put_structure(&mut buf[72..92], b);
-    put_structure(&mut buf[92..112], c);
-}
-
-// Writes a table into the buffer's first 112 bytes and keeps the bytes after them; a refused write changes nothing.
-pub fn write(buf: &mut [u8], table: Table) -> Verdict
-    ensures { λ r. ⌜ toldVerdict r ≡ writeOf table (now (buf .entry)) ⌝ }
-    ensures { λ _. ⌜ now (buf .exit) ≡ writtenBy table (now (buf .entry)) (writeOf table (now (buf .entry))) ⌝ }
-{
-    match admit(table) {
-        Verdict::Refused(why) => Verdict::Refused(why),
-        Verdict::Accepted => {
-            if buf.len() < 112 {
-                return Verdict::Refused(Refusal::ROOM);
-            }
-            put_table(buf, table);
-            Verdict::Accepted
-        }
     }
 }

@@ -13,8 +13,8 @@ use Rattle.lent.specs.Lent.{begins}
 use Rattle.lent.proofs.Begins.{begins-front}
 use Rattle.aspt.specs.declared.Structure.{Structure}
 use Rattle.aspt.specs.declared.Table.{Table}
-use Rattle.aspt.specs.Calls.{writeOf}
-use Rattle.aspt.specs.Back.{NarrowStructure, Narrow}
+use Rattle.aspt_build.specs.Write.{writeOf}
+use Rattle.aspt_build.specs.Back.{NarrowStructure, Narrow}
 use Rattle.aspt_words.specs.AsptTable.{layTable, tableFrom, writeWords, WordsTaken}
 
 -- what a write of lent words answers

@@ -8,8 +8,8 @@ use Rattle.reply.specs.Reply.{Reply, guard}
 use Rattle.lent.specs.Lent.{begins}
 use Rattle.aspt.specs.declared.Structure.{Structure}
 use Rattle.aspt.specs.declared.Table.{Table}
-use Rattle.aspt.specs.Calls.{writeOf}
-use Rattle.aspt.specs.Back.{Narrow}
+use Rattle.aspt_build.specs.Write.{writeOf}
+use Rattle.aspt_build.specs.Back.{Narrow}
 
 -- a structure: five words, its type, ID byte and register offsets
 abbrev pub layStructure : Structure → List ℕ

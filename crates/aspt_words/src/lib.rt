@@ -4,7 +4,8 @@ ghost use mathlib.Core.Path.{_≡_};
 ghost use Prim.Native.Nat.{_+_, _≤_};
 ghost use lib.ListN.{length};
 ghost use Rattle.lent.specs.Lent.{numberOf, numberLeft, wordsLeft};
-ghost use Rattle.aspt.specs.Calls.{readOf, writtenBy};
+ghost use Rattle.aspt.specs.Calls.{readOf};
+ghost use Rattle.aspt_build.specs.Write.{writtenBy};
 ghost use Rattle.aspt_words.specs.AsptTable.{layTable, structureFrom, tableFrom, writeWords};
 use aspt::Reading;
 use aspt::Structure;
@@ -103,7 +104,7 @@ pub fn write(buf: &mut [u8], words: &[u64]) -> u64
     let table = table_from(words);
     let values = lay(table);
     if lent::begin_with(words, &values) {
-        match aspt::write(buf, table) {
+        match aspt_build::write(buf, table) {
             Verdict::Accepted => 0,
             Verdict::Refused(why) => why.number as u64,
         }

@@ -2,7 +2,8 @@
 // revision, the base address, the pages, then for each structure its type, its ID byte and its three register offsets.
 ghost use mathlib.Core.Path.{_≡_};
 ghost use Rattle.lent.specs.Lent.{numberOf, numberLeft, wordsLeft};
-ghost use Rattle.aspt.specs.Calls.{readOf, writtenBy};
+ghost use Rattle.aspt.specs.Calls.{readOf};
+ghost use Rattle.aspt_build.specs.Write.{writtenBy};
 ghost use Rattle.aspt_words.specs.AsptTable.{layTable, tableFrom, writeWords};
 
 // Twenty-two words: the table that the lent bytes hold.

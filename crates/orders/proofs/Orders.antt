@@ -11,8 +11,9 @@ use Rattle.flash.specs.Flash.{flashDirectory}
 use Rattle.place.specs.Place.{placedAt}
 use Rattle.build.specs.Write.{entryBytes, startOf, roomFor}
 use Rattle.aspt.specs.Rules.{sumOf, fresh, idFits, registersFit, structureChecks, structuresChecks}
-use Rattle.aspt.specs.Bytes.{reservedZero, foundIn, ownOf, partBytes, bytesWith, tableBytes}
-use Rattle.aspt.specs.Calls.{headerChecks, tableOf, readOf, admitOf, writeOf}
+use Rattle.aspt.specs.Bytes.{reservedZero, foundIn}
+use Rattle.aspt.specs.Calls.{headerChecks, tableOf, readOf, admitOf}
+use Rattle.aspt_build.specs.Write.{ownOf, partBytes, bytesWith, tableBytes, writeOf}
 use Rattle.guids.specs.Table.{footer, headerOf, lengthBefore, entriesIn}
 use Rattle.guids_build.specs.Write.{startOf as guidStartOf, allZero, roomFor as guidRoomFor}
 use Rattle.firmware.specs.Word.{wordOf}

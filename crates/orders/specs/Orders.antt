@@ -10,7 +10,8 @@ use Rattle.directory.specs.Part.{partIn}
 use Rattle.flash.specs.Flash.{flashDirectory}
 use Rattle.place.specs.Place.{placedAt}
 use Rattle.build.specs.Write.{entryBytes, startOf, extendOf, roomFor}
-use Rattle.aspt.specs.Calls.{readOf, writeOf}
+use Rattle.aspt.specs.Calls.{readOf}
+use Rattle.aspt_build.specs.Write.{writeOf}
 use Rattle.guids.specs.Table.{tableOf}
 use Rattle.guids_build.specs.Write.{startOf as guidStartOf, roomFor as guidRoomFor}
 use Rattle.firmware.specs.Word.{statusIn}

@@ -4,7 +4,7 @@ use mathlib.Core.List.{List, [], _∷_, _++_}
 use lib.ListN.{replicate}
 use Rattle.le.specs.Le.{leBytes, putBytes, putAt}
 use Rattle.aspt.specs.Rules.{sumOf}
-use Rattle.aspt.specs.Bytes.{tableBytes}
+use Rattle.aspt_build.specs.Write.{tableBytes}
 use Rattle.aspt.specs.declared.Structure.{Structure}
 use Rattle.aspt.specs.declared.Table.{Table}
 use Rattle.guids.specs.Table.{footer, endBytes}

@@ -157,7 +157,7 @@ fn sum_of_the_table_alone() {
         second: structure(1, 1, 0x20, 0x24, 0x28),
         third: structure(2, 0, 0x30, 0, 0),
     };
-    match aspt::write(&mut buf, table) {
+    match aspt_build::write(&mut buf, table) {
         Verdict::Accepted => show(b"ok\n"),
         Verdict::Refused(why) => show_refusal(why),
     }

@@ -1,6 +1,7 @@
 use Rattle.aspt_words.proofs.AsptWords.{words-pass, words-fail}
 use Rattle.aspt_words.specs.AsptTable.{layTable, tableFrom, writeWords}
-use Rattle.aspt.specs.Calls.{writeOf, writtenBy, toldVerdict}
+use Rattle.aspt.specs.Calls.{toldVerdict}
+use Rattle.aspt_build.specs.Write.{writeOf, writtenBy}
 use Rattle.aspt.specs.declared.Table.{Table}
 use Rattle.lent.specs.Lent.{numberOf, begins}
 use Rattle.reply.proofs.ReplyLaws.{failed}

@@ -1,0 +1,6 @@
+pub mod Written
+pub mod SumLaws
+pub mod Parts
+pub mod Accept
+pub mod Back
+pub mod Values
