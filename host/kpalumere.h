@@ -41,8 +41,9 @@ uint64_t kpalumere_checksum(const uint8_t *bytes, size_t bytes_len, uint64_t *wo
  * `image` is a whole flash image. `level` is 1 or 2, any other is refused with 9. Each of these calls answers 15 for an image
  * that is empty or has more than 16,777,216 bytes; 2 where it has no EFS; 7 where the EFS's pointer, or the entry that leads
  * to level two, leads out of it; 8 where there is no pointer or no such entry; 16 where that entry has address mode 3; and for
- * a directory that is not good 1 (cut off), 2 (cookie), 3 (total), 4 (checksum), 5 (reserved bits) or 14 (type 0x40 in level
- * two). What a call answers besides stands with it. Places are offsets into the image.
+ * a directory that is not good 1 (cut off), 2 (cookie), 3 (total), 4 (checksum), 5 (reserved bits), 14 (type 0x40 in level
+ * two) or 18 (an entry has the type and subprogram of an earlier one of the same directory). What a call answers besides stands
+ * with it. Places are offsets into the image.
  */
 
 /* The EFS and its two directory pointers as they stand: the early one at 0x10, the late one at 0x14. It asks neither for a
@@ -61,13 +62,23 @@ uint64_t kpalumere_efs(const uint8_t *image, size_t image_len, uint64_t *words, 
  */
 uint64_t kpalumere_pointer(const uint8_t *image, size_t image_len, uint64_t *words, size_t words_len);
 
-/* The directory of a level.
+/* The directory of a level. No two of its entries have the same type and subprogram, else it is refused with 18.
  *
  * Answers 0 and words[0] = its place, words[1] = its level, words[2] = its total; 12 where words_len is below 3.
  */
 uint64_t kpalumere_directory(const uint8_t *image, size_t image_len, uint32_t level, uint64_t *words, size_t words_len);
 
-/* An entry of the directory of a level.
+/* Of the directory of a level that is refused with 18, which entries are the same: the first that repeats an earlier one, and the
+ * first before it that it repeats. Level two is reached through a good level one: where level one is refused with 18, so is this
+ * call for level two.
+ *
+ * Answers 0 and words[0] = the index of the entry that repeats, words[1] = the index of the earlier one, words[2] = the type and
+ * words[3] = the subprogram of both; 8 where the directory is good, too; 12 where words_len is below 4.
+ */
+uint64_t kpalumere_repeated(const uint8_t *image, size_t image_len, uint32_t level, uint64_t *words, size_t words_len);
+
+/* An entry of the directory of a level. The directory is refused, with 18 as with its other numbers, whichever entry is asked
+ * for.
  *
  * Answers 0 and words[0] = its type, words[1] = its subprogram, words[2] = its size, words[3] = its location or value,
  * words[4] = its address mode (0 to 3); 8 where `index` is not below the total; 12 where words_len is below 5.
@@ -75,7 +86,8 @@ uint64_t kpalumere_directory(const uint8_t *image, size_t image_len, uint32_t le
 uint64_t kpalumere_entry(const uint8_t *image, size_t image_len, uint32_t level, uint64_t index, uint64_t *words,
                          size_t words_len);
 
-/* Where the bytes of an entry of the directory of a level lie, also where there are none of them.
+/* Where the bytes of an entry of the directory of a level lie, also where there are none of them. The directory is refused,
+ * with 18 as with its other numbers, whichever entry is asked for.
  *
  * Answers 0 and words[0] = their place, words[1] = how many they are; 8 where `index` is not below the total; 17 where the
  * entry holds a value; 16 where its address mode is 3; 7 where the bytes do not lie in the image; 12 where words_len is
@@ -84,7 +96,8 @@ uint64_t kpalumere_entry(const uint8_t *image, size_t image_len, uint32_t level,
 uint64_t kpalumere_part(const uint8_t *image, size_t image_len, uint32_t level, uint64_t index, uint64_t *words,
                         size_t words_len);
 
-/* The first entry of a type and subprogram in the directory of a level.
+/* The entry of a type and subprogram in the directory of a level. There is at most one: a directory that repeats any type and
+ * subprogram is refused with 18, whichever is looked for.
  *
  * Answers 0 and words[0] = its index, words[1] = how many entries were tested; 8 and words[0] = how many entries were tested,
  * which is 0 where there is no such directory; 12 where words_len is below 2, or below 1 with an 8.
@@ -93,7 +106,8 @@ uint64_t kpalumere_find(const uint8_t *image, size_t image_len, uint32_t level, 
                         size_t words_len);
 
 /* The first entry of a type and subprogram in the whole image: level one in order, and after each entry of type 0x40 that does
- * not match the level two to which it leads. The first fault that is met before a match refuses the lookup.
+ * not match the level two to which it leads. The two levels may share a type and subprogram. The first fault that is met before
+ * a match refuses the lookup, an 18 of a level two too.
  *
  * Answers 0 and words[0] = the place of the match's directory, words[1] = its level, words[2] = the match's index,
  * words[3] = how many entries were tested; 8 and words[0] = how many entries were tested; 12 where words_len is below 4, or
@@ -121,14 +135,14 @@ uint64_t kpalumere_version(const uint8_t *bytes, size_t bytes_len, uint64_t *wor
 
 /* The place that a view of the directory of a level holds.
  *
- * Answers 0 and words[0] = the place; 12 where words_len is 0; else what kpalumere_directory answers.
+ * Answers 0 and words[0] = the place; 12 where words_len is 0; else what kpalumere_directory answers, 18 among it.
  */
 uint64_t kpalumere_view(const uint8_t *image, size_t image_len, uint32_t level, uint64_t *words, size_t words_len);
 
 /* An entry, from a view that holds the image and the place.
  *
  * Answers 0 and five words as kpalumere_entry; 15 for an image that is empty or has more than 16,777,216 bytes; 7 where the
- * place lies beyond it; 1, 2, 3, 4, 5 or 14 for a directory that is not good; 8 where `index` is not below its total; 12
+ * place lies beyond it; 1, 2, 3, 4, 5, 14 or 18 for a directory that is not good; 8 where `index` is not below its total; 12
  * where words_len is below 5.
  */
 uint64_t kpalumere_view_entry(const uint8_t *image, size_t image_len, size_t place, size_t index, uint64_t *words,
@@ -136,8 +150,8 @@ uint64_t kpalumere_view_entry(const uint8_t *image, size_t image_len, size_t pla
 
 /* Where the bytes of an entry lie, from a view that holds the image and the place.
  *
- * Answers 0 and two words as kpalumere_part; the refusals of kpalumere_view_entry; 17 where the entry holds a value; 16 where
- * its address mode is 3; 7 where the bytes do not lie in the image; 12 where words_len is below 2.
+ * Answers 0 and two words as kpalumere_part; the refusals of kpalumere_view_entry, 18 among them; 17 where the entry holds a
+ * value; 16 where its address mode is 3; 7 where the bytes do not lie in the image; 12 where words_len is below 2.
  */
 uint64_t kpalumere_view_part(const uint8_t *image, size_t image_len, size_t place, size_t index, uint64_t *words,
                              size_t words_len);
@@ -156,9 +170,9 @@ uint64_t kpalumere_start(uint8_t *buf, size_t buf_len, uint32_t level);
 /* Adds an entry to the good directory at the buffer's start. The entry, the total and the checksum are written, and every other
  * byte is kept.
  *
- * Answers 0 and words[0] = the new total; 1, 2, 3, 4, 5 or 14 for a directory that is not good; then 5 where the location is
- * not below 2^62 or the mode is above 3; 14 for type 0x40 in level two; 3 where the total is 512 already; 12 where the buffer
- * has no room for 16 bytes more, or words_len is 0.
+ * Answers 0 and words[0] = the new total; 1, 2, 3, 4, 5, 14 or 18 for a directory that is not good; then 5 where the location
+ * is not below 2^62 or the mode is above 3; 14 for type 0x40 in level two; 18 where an entry of the directory has the type and
+ * subprogram; 3 where the total is 512 already; 12 where the buffer has no room for 16 bytes more, or words_len is 0.
  */
 uint64_t kpalumere_extend(uint8_t *buf, size_t buf_len, uint8_t type, uint8_t sub, uint32_t size, uint64_t location,
                           uint32_t mode, uint64_t *words, size_t words_len);

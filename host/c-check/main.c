@@ -91,6 +91,56 @@ static void check_flash(void)
     expect("no room is refused", 12, kpalumere_find_image(image, length, 1, 0, words, 3));
 }
 
+/* Puts a directory of level one, with two entries of type 1 and the same subprogram, at 0x200 of a copy of the board. */
+static const uint8_t *board_that_repeats(size_t *length)
+{
+    static uint8_t image[0x20024];
+    uint8_t *directory = image + 0x200;
+    uint64_t sum[1] = {0};
+    const uint8_t *good = board(length);
+
+    memcpy(image, good, sizeof image);
+    memcpy(directory + 32, directory + 16, 16);
+    directory[8] = 2;
+    /* Size and location have no part in a repeat. */
+    directory[32 + 4] = 7;
+    directory[32 + 8] = 9;
+    expect("a checksum for the two", 0, kpalumere_checksum(directory + 8, 40, sum, 1));
+    for (int i = 0; i < 4; i++)
+        directory[4 + i] = (uint8_t)(sum[0] >> 8 * i);
+    return image;
+}
+
+static void check_repeated(void)
+{
+    size_t length;
+    const uint8_t *image = board_that_repeats(&length);
+    const uint8_t *good = board(&length);
+    uint64_t words[5] = {1, 2, 3, 4, 5};
+    static const uint64_t kept[5] = {1, 2, 3, 4, 5};
+
+    expect("a directory that repeats is refused", 18, kpalumere_directory(image, length, 1, words, 3));
+    expect("so is level two behind it", 18, kpalumere_directory(image, length, 2, words, 3));
+    expect("an entry before the repeat", 18, kpalumere_entry(image, length, 1, 0, words, 5));
+    expect("a part", 18, kpalumere_part(image, length, 1, 0, words, 2));
+    expect("a lookup of another type", 18, kpalumere_find(image, length, 1, 3, 0, words, 2));
+    expect("a lookup in the whole image", 18, kpalumere_find_image(image, length, 1, 0, words, 4));
+    expect("a view", 18, kpalumere_view(image, length, 1, words, 1));
+    expect("an entry by a view", 18, kpalumere_view_entry(image, length, 0x200, 0, words, 5));
+    expect("a part by a view", 18, kpalumere_view_part(image, length, 0x200, 0, words, 2));
+    expect("no room for the entries that repeat", 12, kpalumere_repeated(image, length, 1, words, 3));
+    expect("level two is not reached", 18, kpalumere_repeated(image, length, 2, words, 4));
+    expect("there is no level three", 9, kpalumere_repeated(image, length, 3, words, 4));
+    expect("a good directory repeats nothing", 8, kpalumere_repeated(good, length, 1, words, 4));
+    expect("the words are kept", 0, (uint64_t)(memcmp(words, kept, sizeof kept) != 0));
+    expect("the entries that repeat are named", 0, kpalumere_repeated(image, length, 1, words, 5));
+    expect("the one that repeats", 1, words[0]);
+    expect("the earlier one", 0, words[1]);
+    expect("the type of both", 1, words[2]);
+    expect("the subprogram of both", 0, words[3]);
+    expect("the word behind is kept", 5, words[4]);
+}
+
 static void check_version(void)
 {
     static const uint8_t version[4] = {0x74, 0x01, 0x08, 0x00};
@@ -123,7 +173,7 @@ static void check_view(void)
 
 static void check_build(void)
 {
-    uint8_t buffer[40];
+    uint8_t buffer[40], before[40];
     uint64_t words[1] = {0};
 
     memset(buffer, 0xEE, sizeof buffer);
@@ -132,8 +182,29 @@ static void check_build(void)
     expect("its total", 1, words[0]);
     expect("its bytes", 0, (uint64_t)(memcmp(buffer, one_entry_directory, 32) != 0));
     expect("the byte behind is kept", 0xEE, buffer[32]);
-    expect("no room is refused", 12, kpalumere_extend(buffer, sizeof buffer, 1, 0, 0x100, 0x1000, 1, words, 1));
+    memcpy(before, buffer, sizeof buffer);
+    expect("no room is refused", 12, kpalumere_extend(buffer, sizeof buffer, 1, 1, 0x100, 0x1000, 1, words, 1));
     expect("mode 4 is refused", 5, kpalumere_extend(buffer, sizeof buffer, 1, 0, 0x100, 0x1000, 4, words, 1));
+    expect("a repeat is refused before the room", 18, kpalumere_extend(buffer, sizeof buffer, 1, 0, 2, 3, 2, words, 1));
+    expect("every byte is kept", 0, (uint64_t)(memcmp(buffer, before, sizeof buffer) != 0));
+    expect("the total is kept", 1, words[0]);
+}
+
+/* The same where there is room, so that nothing but the repeat stands against the entry. */
+static void check_build_repeated(void)
+{
+    uint8_t buffer[64], before[64];
+    uint64_t words[1] = {0};
+
+    memset(buffer, 0xEE, sizeof buffer);
+    memcpy(buffer, one_entry_directory, sizeof one_entry_directory);
+    memcpy(before, buffer, sizeof buffer);
+    expect("a repeat is refused", 18, kpalumere_extend(buffer, sizeof buffer, 1, 0, 2, 3, 2, words, 1));
+    expect("every byte is kept", 0, (uint64_t)(memcmp(buffer, before, sizeof buffer) != 0));
+    expect("no word is written", 0, words[0]);
+    expect("another subprogram is no repeat", 0, kpalumere_extend(buffer, sizeof buffer, 1, 1, 2, 3, 2, words, 1));
+    expect("another type is none", 0, kpalumere_extend(buffer, sizeof buffer, 0, 1, 2, 3, 2, words, 1));
+    expect("the total", 3, words[0]);
 }
 
 static void check_aspt(void)
@@ -210,9 +281,11 @@ int main(void)
 {
     check_checksum();
     check_flash();
+    check_repeated();
     check_version();
     check_view();
     check_build();
+    check_build_repeated();
     check_aspt();
     check_guids();
     check_mailbox();

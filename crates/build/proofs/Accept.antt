@@ -2,17 +2,21 @@
 use mathlib.Core.Path.{_≡_, refl, sym, ap, subst, _∙_}
 use mathlib.Core.Logic.{_⊎_, inl, inr}
 use mathlib.Core.List.{List}
-use mathlib.Core.Bool.{Bool, true, false}
+use mathlib.Core.Bool.{Bool, true, false, not}
 use Prim.Native.Nat.{ℕ, _+_, _*_, _^_, _≤_}
 use native.Mathlib.Omega.{arith}
-use borrow.Author.Tests.{leb-true, ltb-true, eqb-true, eqb-false}
+use borrow.Author.Tests.{leb-true, ltb-true, eqb-true, eqb-false, not-true}
 use lib.ListN.{length}
 use lib.Dec.{leb, ltb, eqb}
 use Rattle.reply.specs.Reply.{Reply, given, refused, then}
-use Rattle.reply.proofs.ReplyLaws.{past, then-given, one-by}
+use Rattle.reply.proofs.ReplyLaws.{past, then-given, one-by, apart}
 use Rattle.directory.specs.Directory.{pspKind, placedIn, directoryOf, directoryByCookie}
+use Rattle.entries.specs.Entry.{entryOf, matchOf, holdsIn}
 use Rattle.directory.specs.Good.{GoodDirectory}
+use Rattle.entries.specs.Good.{Matches}
 use Rattle.directory.specs.declared.Directory.{Directory}
+use Rattle.reply.proofs.SomeLaws.{none-below, some-false}
+use Rattle.entries.proofs.Lowest.{match-says, match-holds}
 use Rattle.directory.proofs.Accept.{placed-fact, placed-test, cookie-acceptance}
 use Rattle.build.specs.declared.Fields.{Fields}
 use Rattle.build.specs.declared.Total.{Total}
@@ -59,13 +63,14 @@ start-all level s g = let l = from-one level (g .either) in sym (start-room leve
 pub extend-only : (f : Fields) (s : List ℕ) (total : ℕ) → extendOf f s ≡ given total → (level : ℕ) × (n : ℕ) × Extendable f s level n × (total ≡ n + 1)
 unfolding roomFor
 extend-only f s total e =
-    let t = then-given (directoryByCookie pspKind 512 s 0) (roomFor f (length s)) e in
+    let t = then-given (directoryByCookie pspKind 512 s 0) (roomFor f s) e in
     let d = t .0 in
     let g = cookie-acceptance .only pspKind 512 s 0 d (t .1) in
     let a = past (ltb (f .location) (2 ^ 62)) _ _ _ (t .2) in
     let b = past (leb (f .mode) 3) _ _ _ (a .1) in
     let p = past (placedIn pspKind (d .level) (f .class)) _ _ _ (b .1) in
-    let n = past (ltb (d .total) 512) _ _ _ (p .1) in
+    let q = past (not (holdsIn pspKind s d (f .class) (f .subprogram))) _ _ _ (p .1) in
+    let n = past (ltb (d .total) 512) _ _ _ (q .1) in
     let r = past (leb (16 + d .total * 16 + 16) (length s)) _ _ _ (n .1) in
     let at : d ≡ directoryOf 0 (d .level) (d .total) = ap (λ (o : ℕ). directoryOf o (d .level) (d .total)) (g .1) in (
       d .level,
@@ -74,6 +79,9 @@ extend-only f s total e =
         either = g .2;
         good = subst (GoodDirectory pspKind 512 s) at (g .0);
         fits = record { location = ltb-true _ _ (a .0); mode = leb-true _ _ (b .0); placed = placed-fact pspKind (d .level) (f .class) (p .0) };
+        new = λ j l m. apart (match-says (entryOf pspKind s (directoryOf 0 (d .level) (d .total)) j) (f .class) (f .subprogram) m)
+            (none-below (λ j. matchOf (entryOf pspKind s (directoryOf 0 (d .level) (d .total)) j) (f .class) (f .subprogram)) (d .total)
+            (ap (λ (d : Directory). holdsIn pspKind s d (f .class) (f .subprogram)) (sym at) ∙ not-true _ (q .0)) j l);
         few = ltb-true _ _ (n .0);
         room = leb-true _ _ (r .0);
       },
@@ -84,8 +92,16 @@ pub extend-all : (f : Fields) (s : List ℕ) (level n : ℕ) → Extendable f s 
 extend-all f s level n g =
     let fits = g .fits in
     let l = fits .location in
-    ap (λ (r : Reply Directory). then r (roomFor f (length s))) (cookie-acceptance .all pspKind 512 s (directoryOf 0 level n) (λ e. omega arith) (g .good) (g .either))
-    ∙ sym (room-given f (length s) (directoryOf 0 level n) (omega arith) (fits .mode) pspKind true refl (sym (placed-test pspKind level (f .class) (fits .placed))) refl (g .few) (g .room))
+    ap (λ (r : Reply Directory). then r (roomFor f s)) (cookie-acceptance .all pspKind 512 s (directoryOf 0 level n) (λ e. omega arith) (g .good) (g .either))
+    ∙ sym (room-given f s (directoryOf 0 level n) (omega arith) (fits .mode) pspKind true refl (sym (placed-test pspKind level (f .class) (fits .placed))) refl false
+    (sym (some-false (λ j. matchOf (entryOf pspKind s (directoryOf 0 level n) j) (f .class) (f .subprogram)) n (λ j l. differs j (g .new j l)))) refl (g .few) (g .room))
+  where
+    differs : (j : ℕ) → (Matches pspKind s (directoryOf 0 level n) (f .class) (f .subprogram) j → ⊥) → matchOf (entryOf pspKind s (directoryOf 0 level n) j) (f .class) (f .subprogram) ≡ false
+    differs j never = by (matchOf (entryOf pspKind s (directoryOf 0 level n) j) (f .class) (f .subprogram)) refl
+      where
+        by : (b : Bool) → matchOf (entryOf pspKind s (directoryOf 0 level n) j) (f .class) (f .subprogram) ≡ b → b ≡ false
+        by true e = absurd (never (match-holds (entryOf pspKind s (directoryOf 0 level n) j) (f .class) (f .subprogram) e))
+        by false e = refl
 
 pub write-acceptance : WriteAcceptance
 write-acceptance = record { start-only = start-only; start-all = start-all; extend-only = extend-only; extend-all = extend-all }

@@ -3,21 +3,22 @@ use mathlib.Core.Path.{_≡_, refl, sym, ap, _∙_}
 use mathlib.Core.Logic.{_⊎_}
 use mathlib.Core.List.{List}
 use Prim.Native.Nat.{ℕ, zero, suc, _+_, _*_, _<_, _≤_}
+use native.Mathlib.Nat.{zero-add}
 use native.Mathlib.Omega.{arith}
-use lib.ListN.{length, take, drop}
+use lib.ListN.{length, getD, take, drop}
 use Rattle.le.specs.Le.{leAt, leBytes, Bytes}
 use Rattle.le.proofs.Laws.{le-small}
 use Rattle.le.proofs.Part.{part-add}
 use Rattle.le.proofs.Back.{le-again}
 use Rattle.fletcher.specs.Fletcher.{fletcherOf}
 use Rattle.directory.specs.Directory.{pspKind, cookieOf, directoryOf}
-use Rattle.directory.specs.Entry.{entryOf}
+use Rattle.entries.specs.Entry.{entryOf}
 use Rattle.directory.specs.Good.{GoodDirectory}
 use Rattle.directory.specs.declared.Directory.{Directory}
 use Rattle.build.specs.declared.Fields.{Fields}
 use Rattle.build.specs.Write.{entriesBytes, summedBytes, directoryBytes}
 use Rattle.build.specs.Accept.{Fits}
-use Rattle.build.specs.Back.{Sized, Each, nothing, also, fieldsOf, entriesFrom, entriesOf}
+use Rattle.build.specs.Back.{Sized, Each, nothing, also, blank, fieldsOf, entriesFrom, entriesOf}
 use Rattle.build.proofs.Places.{entry-again}
 use Rattle.build.proofs.Grow.{Sound}
 
@@ -31,6 +32,12 @@ module _ (s : List ℕ) (d : Directory) where
   unfolding entriesFrom
   each-from P zero i h = nothing
   each-from P (suc m) i h = also (h i (omega arith) (omega arith)) (each-from P m (i + 1) (λ j a b. h j (omega arith) (omega arith)))
+
+  from-at : (m i j : ℕ) → j < m → getD (entriesFrom s d m i) j blank ≡ fieldsOf (entryOf pspKind s d (i + j))
+  unfolding entriesFrom
+  from-at zero i j h = absurd (let z : ⊥ = omega arith in z)
+  from-at (suc m) i zero h = ap (λ (k : ℕ). fieldsOf (entryOf pspKind s d k)) (omega arith)
+  from-at (suc m) i (suc j) h = from-at m (i + 1) j (omega arith) ∙ ap (λ (k : ℕ). fieldsOf (entryOf pspKind s d k)) (omega arith)
 
 -- what the reader tells of a directory of this level and total at a buffer's start
 abbrev pub toldIn : List ℕ → ℕ → ℕ → List Fields
@@ -75,6 +82,15 @@ module _ (s : List ℕ) (bytes : Bytes s) (level n : ℕ) (good : GoodDirectory 
   told-sound either = record {
     either = either;
     few = omega (arith, good .few, length-from s (directoryOf 0 level n) n 0);
+    apart = λ i j h l same.
+        let d = directoryOf 0 level n in
+        let below : i < n = omega (arith, length-from s d n 0) in
+        let x = from-at s d n 0 i below ∙ ap (λ (k : ℕ). fieldsOf (entryOf pspKind s d k)) (zero-add i) in
+        let y = from-at s d n 0 j (omega arith) ∙ ap (λ (k : ℕ). fieldsOf (entryOf pspKind s d k)) (zero-add j) in
+        good .first i below refl j l (
+          sym (ap (λ (f : Fields). f .class) y) ∙ same .0 ∙ ap (λ (f : Fields). f .class) x,
+          sym (ap (λ (f : Fields). f .subprogram) y) ∙ same .1 ∙ ap (λ (f : Fields). f .subprogram) x,
+        );
     sized = each-from s (directoryOf 0 level n) Sized n 0 (λ j a b. record {
       class = bytes (16 + j * 16);
       subprogram = bytes (16 + j * 16 + 1);

@@ -24,7 +24,7 @@ use Rattle.build.proofs.Accepted.{toldIn, length-from, directory-bytes,
 
 -- no entries
 empty : (level : ℕ) → (level ≡ 1) ⊎ (level ≡ 2) → Sound level []
-empty level either = record { either = either; few = omega arith; sized = nothing; fits = nothing }
+empty level either = record { either = either; few = omega arith; sized = nothing; fits = nothing; apart = λ i j h l same. let z : ⊥ = omega arith in z }
 
 -- what a start leaves
 started-bytes : (level : ℕ) (s : List ℕ) → 16 ≤ length s → putBytes (directoryBytes level []) s 0 ≡ directoryBytes level [] ++ drop 16 s
@@ -53,14 +53,14 @@ built-only level fs s t sized e =
 build-only : (level : ℕ) (fs : List Fields) (s t : List ℕ) → Each Sized fs → buildOf level fs s ≡ given t → Buildable level fs s
 build-only level fs s t sized e =
     let x = built-only level fs s t sized e in
-    record { either = x .0 .either; few = x .0 .few; fits = x .0 .fits; room = x .1 }
+    record { either = x .0 .either; few = x .0 .few; fits = x .0 .fits; apart = x .0 .apart; room = x .1 }
 
 build-all : (level : ℕ) (fs : List Fields) (s : List ℕ) → Each Sized fs → Buildable level fs s → buildOf level fs s ≡ given (putBytes (directoryBytes level fs) s 0)
 build-all level fs s sized g =
     let room = g .room in
     ap (λ (x : Reply ℕ). then x (λ total. extendAll fs (startedBy level s (given total)))) (start-all level s (record { either = g .either; room = omega arith }))
     ∙ ap (extendAll fs) (started-bytes level s (omega arith))
-    ∙ grows level fs [] (drop 16 s) (empty level (g .either)) sized (g .fits) (omega (arith, g .few)) (omega (arith, length-drop 16 s)) ∙ ap given (whole-bytes level fs s room)
+    ∙ grows level fs [] (drop 16 s) (empty level (g .either)) sized (g .fits) (g .apart) (omega (arith, g .few)) (omega (arith, length-drop 16 s)) ∙ ap given (whole-bytes level fs s room)
 
 pub build-acceptance : BuildAcceptance
 build-acceptance = record { only = build-only; all = build-all }
@@ -103,7 +103,7 @@ again s buffer d bytes found = found-at s d found
     let long : length told ≡ n = length-from s (directoryOf 0 level n) n 0 in
     let sound = told-sound s bytes level n good either in
     build-all level told buffer (sound .sized)
-    (record { either = either; few = sound .few; fits = sound .fits; room = omega arith })
+    (record { either = either; few = sound .few; fits = sound .fits; apart = sound .apart; room = omega arith })
     ∙ ap given (put-front (directoryBytes level told) buffer (16 + n * 16) (length-directory level told ∙ ap (λ (k : ℕ). 16 + k * 16) long) room
     ∙ ap (λ (x : List ℕ). x ++ drop (16 + n * 16) buffer) (directory-bytes s bytes level n good)))
 

@@ -1,7 +1,7 @@
 -- What the code comes to, case by case: each test that decides, and each row of writes. Assumes nothing.
 use mathlib.Core.Path.{_≡_, refl, sym, ap, _∙_}
 use mathlib.Core.List.{List, [], _++_, append-assoc, append-nil}
-use mathlib.Core.Bool.{Bool, true, false}
+use mathlib.Core.Bool.{Bool, true, false, not}
 use Prim.Native.Nat.{ℕ, _+_, _*_, _-_, _^_, _<_, _≤_}
 use native.Mathlib.Nat.{zero-add}
 use native.Mathlib.Omega.{arith}
@@ -12,8 +12,11 @@ use Rattle.le.specs.Le.{leAt, leBytes, putBytes, putAt, bytesOf}
 use Rattle.le.proofs.Put.{put-some}
 use Rattle.le.proofs.Numbers.{puts-all}
 use Rattle.fletcher.specs.Fletcher.{wordsAt, sumOf, weightedOf, fletcherOf}
-use Rattle.reply.specs.Reply.{given, refused, alone}
+use lib.Dec.{leb, ltb}
+use Rattle.reply.specs.Reply.{Reply, given, refused, alone, guard}
+use Rattle.reply.proofs.ReplyLaws.{passed, failed}
 use Rattle.directory.specs.Directory.{pspKind, cookieOf, placedIn}
+use Rattle.entries.specs.Entry.{holdsIn}
 use Rattle.directory.specs.declared.Kind.{Kind}
 use Rattle.directory.specs.declared.Directory.{Directory}
 use Rattle.build.specs.declared.Fields.{Fields}
@@ -37,13 +40,13 @@ module _ (level : ℕ) (s : List ℕ) where
   unfolding startOf
   start-room a b r = rw (le-leb 1 level a, le-leb level 2 b, le-leb 16 (length s) r)
 
-module _ (f : Fields) (len : ℕ) (d : Directory) where
-  pub room-location : 0x3FFF_FFFF_FFFF_FFFF < f .location → refused 5 alone ≡ roomFor f len d
+module _ (f : Fields) (s : List ℕ) (d : Directory) where
+  pub room-location : 0x3FFF_FFFF_FFFF_FFFF < f .location → refused 5 alone ≡ roomFor f s d
   unfolding roomFor
   room-location a = rw (le-ltb (f .location) (2 ^ 62) (omega arith))
 
   module _ (a : f .location ≤ 0x3FFF_FFFF_FFFF_FFFF) where
-    pub room-mode : 3 < f .mode → refused 5 alone ≡ roomFor f len d
+    pub room-mode : 3 < f .mode → refused 5 alone ≡ roomFor f s d
     unfolding roomFor
     room-mode b = rw (lt-ltb (f .location) (2 ^ 62) (omega arith), lt-leb (f .mode) 3 b)
 
@@ -51,25 +54,38 @@ module _ (f : Fields) (len : ℕ) (d : Directory) where
       placed : placedIn pspKind (d .level) (f .class) ≡ p
       placed = sym (e ∙ ap (λ (kind : Kind). placedIn kind (d .level) (f .class)) k)
 
-      pub room-misplaced : p ≡ false → refused 14 alone ≡ roomFor f len d
+      pub room-misplaced : p ≡ false → refused 14 alone ≡ roomFor f s d
       unfolding roomFor
       room-misplaced h = rw (lt-ltb (f .location) (2 ^ 62) (omega arith), le-leb (f .mode) 3 b, placed ∙ h)
 
-      pub room-full : p ≡ true → 512 ≤ d .total → refused 3 alone ≡ roomFor f len d
-      unfolding roomFor
-      room-full h n = rw (lt-ltb (f .location) (2 ^ 62) (omega arith), le-leb (f .mode) 3 b, placed ∙ h, le-ltb (d .total) 512 n)
+      module _ (h : p ≡ true) (t : Bool) (held : t ≡ holdsIn kind s d (f .class) (f .subprogram)) where
+        holds : holdsIn pspKind s d (f .class) (f .subprogram) ≡ t
+        holds = sym (held ∙ ap (λ (kind : Kind). holdsIn kind s d (f .class) (f .subprogram)) k)
 
-      pub room-short : p ≡ true → d .total < 512 → len < 16 + d .total * 16 + 16 → refused 12 alone ≡ roomFor f len d
-      unfolding roomFor
-      room-short h n r =
-          rw (lt-ltb (f .location) (2 ^ 62) (omega arith), le-leb (f .mode) 3 b, placed ∙ h, lt-ltb (d .total) 512 n, lt-leb (16 + d .total * 16 + 16) len r)
+        pub room-repeated : t ≡ true → refused 18 alone ≡ roomFor f s d
+        unfolding roomFor
+        room-repeated y =
+            sym (passed _ _ _ _ (lt-ltb (f .location) (2 ^ 62) (omega arith)) ∙ passed _ _ _ _ (le-leb (f .mode) 3 b) ∙ passed _ _ _ _ (placed ∙ h) ∙ failed _ _ _ _ (ap not (holds ∙ y)))
 
-      pub room-given : p ≡ true → d .total < 512 → 16 + d .total * 16 + 16 ≤ len → given (d .total + 1) ≡ roomFor f len d
-      unfolding roomFor
-      room-given h n r =
-          rw (lt-ltb (f .location) (2 ^ 62) (omega arith), le-leb (f .mode) 3 b, placed ∙ h, lt-ltb (d .total) 512 n, le-leb (16 + d .total * 16 + 16) len r)
+        module _ (y : t ≡ false) where
+          first : (rest : Reply ℕ) →
+              guard (ltb (f .location) (2 ^ 62)) 5 (guard (leb (f .mode) 3) 5 (guard (placedIn pspKind (d .level) (f .class)) 14 (guard (not (holdsIn pspKind s d (f .class) (f .subprogram))) 18 rest))) ≡ rest
+          first rest =
+              passed _ _ _ _ (lt-ltb (f .location) (2 ^ 62) (omega arith)) ∙ passed _ _ _ _ (le-leb (f .mode) 3 b) ∙ passed _ _ _ _ (placed ∙ h) ∙ passed _ _ _ _ (ap not (holds ∙ y))
 
-pub ruleset room-cases = (room-location, room-mode, room-misplaced, room-full, room-short, room-given)
+          pub room-full : 512 ≤ d .total → refused 3 alone ≡ roomFor f s d
+          unfolding roomFor
+          room-full n = sym (first _ ∙ failed _ _ _ _ (le-ltb (d .total) 512 n))
+
+          pub room-short : d .total < 512 → length s < 16 + d .total * 16 + 16 → refused 12 alone ≡ roomFor f s d
+          unfolding roomFor
+          room-short n r = sym (first _ ∙ passed _ _ _ _ (lt-ltb (d .total) 512 n) ∙ failed _ _ _ _ (lt-leb (16 + d .total * 16 + 16) (length s) r))
+
+          pub room-given : d .total < 512 → 16 + d .total * 16 + 16 ≤ length s → given (d .total + 1) ≡ roomFor f s d
+          unfolding roomFor
+          room-given n r = sym (first _ ∙ passed _ _ _ _ (lt-ltb (d .total) 512 n) ∙ passed _ _ _ _ (le-leb (16 + d .total * 16 + 16) (length s) r))
+
+pub ruleset room-cases = (room-location, room-mode, room-misplaced, room-repeated, room-full, room-short, room-given)
 
 -- a header's four numbers, written in order
 pub header-put : (kind : Kind) (level cookie : ℕ) (s t u v w : List ℕ) → 1 ≤ level → level ≤ 2 → 16 ≤ length s → kind ≡ pspKind → cookie ≡ cookieOf kind level →

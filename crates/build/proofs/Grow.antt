@@ -2,31 +2,31 @@
 use mathlib.Core.Path.{_≡_, refl, sym, ap, subst, _∙_}
 use mathlib.Core.Logic.{_⊎_}
 use mathlib.Core.List.{List, [], _∷_, _++_, append-assoc, append-nil}
+use mathlib.Core.Bool.{Bool, true, false}
 use Prim.Native.Nat.{ℕ, zero, suc, _+_, _*_, _<_, _≤_}
 use native.Mathlib.Nat.{zero-add}
 use native.Mathlib.Omega.{arith}
-use lib.ListN.{length, getD, drop, length-append, length-drop}
-use lib.Seq.{drop-drop, append-snoc}
+use lib.ListN.{length, getD, drop, length-append, length-drop, List·getD-append}
+use lib.Seq.{drop-drop, append-snoc, getD-at, getD-append-seam}
+use lib.Dec.{ltb}
+use borrow.Author.Tests.{ltb-true, ltb-false}
 use Rattle.le.specs.Le.{leAt, leBytes, bytesOf}
 use Rattle.fletcher.specs.Fletcher.{fletcherOf}
 use Rattle.fletcher.proofs.Laws.{fletcher-small}
 use Rattle.reply.specs.Reply.{Reply, given, then}
 use Rattle.reply.proofs.ReplyLaws.{then-given}
 use Rattle.directory.specs.Directory.{pspKind, cookieOf, directoryOf, directoryByCookie}
-use Rattle.directory.specs.Entry.{fieldsAt, entryOf}
+use Rattle.entries.specs.Entry.{fieldsAt, entryOf}
 use Rattle.directory.specs.Good.{GoodDirectory}
+use Rattle.entries.specs.Good.{Matches}
 use Rattle.directory.specs.declared.Directory.{Directory}
 use Rattle.directory.proofs.Accept.{cookie-acceptance}
 use Rattle.build.specs.declared.Fields.{Fields}
 use Rattle.build.specs.Write.{entryBytes, entriesBytes, summedBytes, directoryBytes, extendOf, extendedBy}
 use Rattle.build.specs.Accept.{Fits}
-use Rattle.build.specs.Back.{Sized, Each, nothing, also, fieldsOf, entriesFrom, Holds, extendAll}
+use Rattle.build.specs.Back.{Sized, Each, nothing, also, blank, Same, Apart, fieldsOf, entriesFrom, Holds, extendAll}
 use Rattle.build.proofs.Accept.{extend-only, extend-all}
 use Rattle.build.proofs.Places.{length-entryBytes, headNumbers, headed-reads, cookie-small, directory-headed, length-directory, directory-summed, extended-bytes, entry-behind}
-
--- no entry: what a place past the end of a list of entries counts as
-blank : Fields
-blank = record { class = 0; subprogram = 0; size = 0; location = 0; mode = 0 }
 
 each-at : {P : Fields → Type 0} {fs : List Fields} (i : ℕ) → Each P fs → i < length fs → P (getD fs i blank)
 each-at i nothing h = absurd (let z : ⊥ = omega arith in z)
@@ -43,6 +43,7 @@ pub record Sound (level : ℕ) (fs : List Fields) : Type 0 where
   pub few : length fs ≤ 512
   pub sized : Each Sized fs
   pub fits : Each (Fits level) fs
+  pub apart : Apart fs
 
 -- the entry at e is f, with reserved bits zero
 abbrev Stands : Fields → List ℕ → ℕ → Type 0
@@ -98,6 +99,13 @@ module _ (level : ℕ) (fs : List Fields) (sound : Sound level fs) (r : List ℕ
           reserved = omega (arith, at i h .1);
           placed = λ l e. each-at i (sound .fits) h .placed l (sym (ap (λ (f : Fields). f .class) (at i h .0)) ∙ e);
         };
+        first = λ i h no j l a.
+            let here = at i h .0 in
+            let there = at j (omega arith) .0 in
+            sound .apart i j h l (
+              sym (ap (λ (f : Fields). f .class) there) ∙ a .0 ∙ ap (λ (f : Fields). f .class) here,
+              sym (ap (λ (f : Fields). f .subprogram) there) ∙ a .1 ∙ ap (λ (f : Fields). f .subprogram) here,
+            );
       }
 
   pub holds : Holds level fs (directoryBytes level fs ++ r)
@@ -106,9 +114,47 @@ module _ (level : ℕ) (fs : List Fields) (sound : Sound level fs) (r : List ℕ
     entries = entries-read (directoryBytes level fs ++ r) (directoryOf 0 level (length fs)) fs 0 (λ j h. ap (λ (k : ℕ). fieldsOf (fieldsAt (directoryBytes level fs ++ r) (16 + k * 16))) (zero-add j) ∙ at j h .0);
   }
 
+  -- an entry at its place has the type and subprogram that it was made of
+  pub at-same : (f : Fields) (i : ℕ) → i < length fs → Matches pspKind (directoryBytes level fs ++ r) (directoryOf 0 level (length fs)) (f .class) (f .subprogram) i → Same (getD fs i blank) f
+  at-same f i h m = (sym (ap (λ (f : Fields). f .class) (at i h .0)) ∙ m .0, sym (ap (λ (f : Fields). f .subprogram) (at i h .0)) ∙ m .1)
+
+  pub same-at : (f : Fields) (i : ℕ) → i < length fs → Same (getD fs i blank) f → Matches pspKind (directoryBytes level fs ++ r) (directoryOf 0 level (length fs)) (f .class) (f .subprogram) i
+  same-at f i h m = (ap (λ (f : Fields). f .class) (at i h .0) ∙ m .0, ap (λ (f : Fields). f .subprogram) (at i h .0) ∙ m .1)
+
+-- an entry that none of these is like
+abbrev New : List Fields → Fields → Type 0
+New gs f = (j : ℕ) → j < length gs → Same (getD gs j blank) f → ⊥
+
+more-apart : (gs : List Fields) (f : Fields) → Apart gs → New gs f → Apart (gs ++ (f ∷ []))
+more-apart gs f apart new i j h l same = by (ltb i (length gs)) refl
+  where
+    long : length (gs ++ (f ∷ [])) ≡ length gs + 1
+    long = length-append gs (f ∷ [])
+
+    by : (b : Bool) → ltb i (length gs) ≡ b → ⊥
+    by true q =
+        let a : i < length gs = ltb-true i (length gs) q in
+        let x = List·getD-append gs (f ∷ []) blank i a in
+        let y = List·getD-append gs (f ∷ []) blank j (omega arith) in
+        apart i j a l (ap (λ (g : Fields). g .class) (sym y) ∙ same .0 ∙ ap (λ (g : Fields). g .class) x, ap (λ (g : Fields). g .subprogram) (sym y) ∙ same .1 ∙ ap (λ (g : Fields). g .subprogram) x)
+    by false q =
+        let a : length gs ≤ i = ltb-false i (length gs) q in
+        let e : length gs ≡ i = omega (arith, long) in
+        let x = getD-at gs f [] blank i e in
+        let y = List·getD-append gs (f ∷ []) blank j (omega arith) in
+        new j (omega arith) (ap (λ (g : Fields). g .class) (sym y) ∙ same .0 ∙ ap (λ (g : Fields). g .class) x, ap (λ (g : Fields). g .subprogram) (sym y) ∙ same .1 ∙ ap (λ (g : Fields). g .subprogram) x)
+
+-- in a row that is apart, an entry is new to those before it
+new-in : (gs fs : List Fields) (f : Fields) → Apart (gs ++ f ∷ fs) → New gs f
+new-in gs fs f apart j l same =
+    let x = getD-append-seam gs f fs blank in
+    let y = List·getD-append gs (f ∷ fs) blank j l in
+    apart (length gs) j (omega (arith, length-append gs (f ∷ fs))) l (ap (λ (g : Fields). g .class) y ∙ same .0 ∙ ap (λ (g : Fields). g .class) (sym x), ap (λ (g : Fields). g .subprogram) y ∙ same .1 ∙ ap (λ (g : Fields). g .subprogram) (sym x))
+
 -- one entry more
-more-sound : (level : ℕ) (gs : List Fields) (f : Fields) → Sound level gs → length gs < 512 → Sized f → Fits level f → Sound level (gs ++ (f ∷ []))
-more-sound level gs f sound h z w = record {
+more-sound : (level : ℕ) (gs : List Fields) (f : Fields) → Sound level gs → length gs < 512 → Sized f → Fits level f → New gs f → Sound level (gs ++ (f ∷ []))
+more-sound level gs f sound h z w new = record {
+  apart = more-apart gs f (sound .apart) new;
   either = sound .either;
   few = omega (arith, length-append gs (f ∷ []));
   sized = each-more (sound .sized) (also z nothing);
@@ -129,7 +175,9 @@ step-only level gs f r total sound sized e =
     let number : total ≡ length gs + 1 = omega (arith, x .3, ap (λ (d : Directory). d .total) same) in
     let room : 16 ≤ length r = omega (arith, g .room, ap (λ (d : Directory). d .total) same, length-append (directoryBytes level gs) r, length-directory level gs) in
     let fits : Fits level f = subst (λ (l : ℕ). Fits l f) (ap (λ (d : Directory). d .level) same) (g .fits) in
-    (more-sound level gs f sound few sized fits, room, ap (λ (k : ℕ). extendedBy f s (given k)) number ∙ extended-bytes level gs f r room)
+    let total-is : x .1 ≡ length gs = ap (λ (d : Directory). d .total) same in
+    let new : New gs f = λ j l m. g .new j (omega arith) (same-at level gs sound r f j l m) in
+    (more-sound level gs f sound few sized fits new, room, ap (λ (k : ℕ). extendedBy f s (given k)) number ∙ extended-bytes level gs f r room)
 
 -- an entry put in, and the others then, are all of them put in
 on : (level : ℕ) (fs gs : List Fields) (f : Fields) (r : List ℕ) →
@@ -151,20 +199,22 @@ grown level (f ∷ fs) gs r t sound (also z zs) e =
     (subst (Sound level) (append-snoc gs f fs) (rest .0), omega (arith, g .1, rest .1, length-drop 16 r), rest .2 ∙ on level fs gs f r)
 
 -- and entries that can be written are accepted
-pub grows : (level : ℕ) (fs gs : List Fields) (r : List ℕ) → Sound level gs → Each Sized fs → Each (Fits level) fs → length gs + length fs ≤ 512 → length fs * 16 ≤ length r →
+pub grows : (level : ℕ) (fs gs : List Fields) (r : List ℕ) → Sound level gs → Each Sized fs → Each (Fits level) fs → Apart (gs ++ fs) → length gs + length fs ≤ 512 → length fs * 16 ≤ length r →
     extendAll fs (directoryBytes level gs ++ r) ≡ given (directoryBytes level (gs ++ fs) ++ drop (length fs * 16) r)
 unfolding extendAll
-grows level [] gs r sound zs ws few room = rw append-nil refl
-grows level (f ∷ fs) gs r sound (also z zs) (also w ws) few room =
+grows level [] gs r sound zs ws apart few room = rw append-nil refl
+grows level (f ∷ fs) gs r sound (also z zs) (also w ws) apart few room =
+    let new = new-in gs fs f apart in
     let s = directoryBytes level gs ++ r in
     let accepted : extendOf f s ≡ given (length gs + 1) = extend-all f s level (length gs) (record {
       either = sound .either;
       good = good level gs sound r;
       fits = w;
+      new = λ j l m. new j l (at-same level gs sound r f j l m);
       few = omega arith;
       room = omega (arith, length-append (directoryBytes level gs) r, length-directory level gs);
     }) in
     ap (λ (x : Reply ℕ). then x (λ total. extendAll fs (extendedBy f s (given total)))) accepted
     ∙ ap (extendAll fs) (extended-bytes level gs f r (omega arith))
-    ∙ grows level fs (gs ++ (f ∷ [])) (drop 16 r) (more-sound level gs f sound (omega arith) z w) zs ws (omega (arith, length-append gs (f ∷ []))) (omega (arith, length-drop 16 r))
+    ∙ grows level fs (gs ++ (f ∷ [])) (drop 16 r) (more-sound level gs f sound (omega arith) z w new) zs ws (subst Apart (sym (append-snoc gs f fs)) apart) (omega (arith, length-append gs (f ∷ []))) (omega (arith, length-drop 16 r))
     ∙ ap given (on level fs gs f r)

@@ -16,7 +16,7 @@ use Rattle.le.proofs.Numbers.{held, held-again}
 use Rattle.fletcher.specs.Fletcher.{fletcherOf}
 use Rattle.reply.specs.Reply.{given}
 use Rattle.directory.specs.Directory.{pspKind, cookieOf, checksumAt}
-use Rattle.directory.specs.Entry.{fieldsAt}
+use Rattle.entries.specs.Entry.{fieldsAt}
 use Rattle.build.specs.declared.Fields.{Fields}
 use Rattle.build.specs.Write.{entryBytes, entriesBytes, summedBytes, directoryBytes, lengthened, extendedBy}
 use Rattle.build.specs.Back.{Sized, fieldsOf}

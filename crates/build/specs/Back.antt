@@ -3,13 +3,13 @@ use Prim.Native.Nat.{ℕ, zero, suc, _+_, _*_, _^_, _<_, _≤_}
 use mathlib.Core.Path.{_≡_}
 use mathlib.Core.Logic.{_⊎_}
 use mathlib.Core.List.{List, [], _∷_, _++_}
-use lib.ListN.{length, take, drop}
+use lib.ListN.{length, getD, take, drop}
 use Rattle.le.specs.Le.{putBytes, Bytes}
 use Rattle.reply.specs.Reply.{Reply, given, then}
 use Rattle.directory.specs.Directory.{pspKind, entryPlace, directoryOf, directoryByCookie}
-use Rattle.directory.specs.Entry.{entryOf}
+use Rattle.entries.specs.Entry.{entryOf}
 use Rattle.directory.specs.declared.Directory.{Directory}
-use Rattle.directory.specs.declared.Entry.{Entry}
+use Rattle.entries.specs.declared.Entry.{Entry}
 use Rattle.build.specs.declared.Fields.{Fields}
 use Rattle.build.specs.Accept.{Fits}
 use Rattle.build.specs.Write.{directoryBytes, startOf, startedBy, extendOf, extendedBy}
@@ -24,6 +24,18 @@ pub record Sized (f : Fields) : Type 0 where
 pub data Each (P : Fields → Type 0) : List Fields → Type 0 where
   nothing : Each P []
   also : {f : Fields} {fs : List Fields} → P f → Each P fs → Each P (f ∷ fs)
+
+-- no entry: what a place past the end of a list of entries counts as
+abbrev pub blank : Fields
+blank = record { class = 0; subprogram = 0; size = 0; location = 0; mode = 0 }
+
+-- two entries of one type and subprogram
+abbrev pub Same : Fields → Fields → Type 0
+Same f g = (f .class ≡ g .class) × (f .subprogram ≡ g .subprogram)
+
+-- no two are that
+abbrev pub Apart : List Fields → Type 0
+Apart fs = (i j : ℕ) → i < length fs → j < i → Same (getD fs j blank) (getD fs i blank) → ⊥
 
 -- an entry that was read, as a writer is given it
 abbrev pub fieldsOf : Entry → Fields
@@ -57,6 +69,7 @@ pub record Buildable (level : ℕ) (fs : List Fields) (s : List ℕ) : Type 0 wh
   pub either : (level ≡ 1) ⊎ (level ≡ 2)
   pub few : length fs ≤ 512
   pub fits : Each (Fits level) fs
+  pub apart : Apart fs
   pub room : 16 + length fs * 16 ≤ length s
 
 -- a start and its extends are all accepted exactly there; the directory's bytes then stand at the buffer's start, and every other byte is kept

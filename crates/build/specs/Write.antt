@@ -1,12 +1,14 @@
 -- Starting and extending a PSP directory at a buffer's start, in document 01's words and order. Assumes nothing: these are definitions.
 use Prim.Native.Nat.{ℕ, _+_, _*_, _-_, _^_}
 use mathlib.Core.List.{List, [], _∷_, _++_}
+use mathlib.Core.Bool.{not}
 use lib.ListN.{length}
 use lib.Dec.{leb, ltb}
 use Rattle.le.specs.Le.{leBytes, putBytes, putAt}
 use Rattle.fletcher.specs.Fletcher.{fletcherOf}
 use Rattle.reply.specs.Reply.{Reply, given, refused, alone, guard, then}
 use Rattle.directory.specs.Directory.{pspKind, cookieOf, placedIn, entryPlace, checksumAt, directoryByCookie}
+use Rattle.entries.specs.Entry.{holdsIn}
 use Rattle.directory.specs.declared.Directory.{Directory}
 use Rattle.build.specs.declared.Fields.{Fields}
 use Rattle.build.specs.declared.Total.{Total}
@@ -41,18 +43,19 @@ abbrev pub startedBy : ℕ → List ℕ → Reply ℕ → List ℕ
 startedBy level s (given total) = putBytes (directoryBytes level []) s 0
 startedBy level s (refused number carried) = s
 
--- what is asked of an entry for a good directory in a buffer of so many bytes; the new total where all holds
-unfoldable pub roomFor : Fields → ℕ → Directory → Reply ℕ
-roomFor f len d =
+-- what is asked of an entry for a good directory in a buffer; the new total where all holds
+unfoldable pub roomFor : Fields → List ℕ → Directory → Reply ℕ
+roomFor f s d =
     guard (ltb (f .location) (2 ^ 62)) 5 (guard (leb (f .mode) 3) 5  -- location below 2^62 and mode at most 3 (5)
     (guard (placedIn pspKind (d .level) (f .class)) 14  -- type 0x40 in level two (14)
+    (guard (not (holdsIn pspKind s d (f .class) (f .subprogram))) 18  -- repeats the type and subprogram of an entry (18)
     (guard (ltb (d .total) 512) 3  -- n below 512 (3)
-    (guard (leb (entryPlace pspKind 0 (d .total) + 16) len) 12  -- room for 16 more bytes (12)
-    (given (d .total + 1))))))
+    (guard (leb (entryPlace pspKind 0 (d .total) + 16) (length s)) 12  -- room for 16 more bytes (12)
+    (given (d .total + 1)))))))
 
 -- extend by one entry: a good directory of either level, by its cookie, at the buffer's start, then the checks above; the new total
 abbrev pub extendOf : Fields → List ℕ → Reply ℕ
-extendOf f s = then (directoryByCookie pspKind 512 s 0) (roomFor f (length s))
+extendOf f s = then (directoryByCookie pspKind 512 s 0) (roomFor f s)
 
 -- the buffer with the entry as the last of `total`, and with that total
 abbrev pub lengthened : Fields → List ℕ → ℕ → List ℕ

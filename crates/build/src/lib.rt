@@ -50,21 +50,25 @@ pub fn start(buf: &mut [u8], level: u32) -> Total
     Total::Given(0)
 }
 
-// What is asked of an entry for a good directory in a buffer of so many bytes: the new total.
-fn room_for(len: usize, d: Directory, f: Fields) -> Total
-    ensures { λ r. ⌜ toldTotal r ≡ roomFor f len d ⌝ }
+// What is asked of an entry for a good directory in a buffer: the new total.
+fn room_for(buf: &[u8], d: Directory, f: Fields) -> Total
+    ensures { λ r. ⌜ toldTotal r ≡ roomFor f (now (buf .entry)) d ⌝ }
 {
+    let kind = directory::psp();
     if 0x3FFF_FFFF_FFFF_FFFF < f.location {
         return Total::Refused(Refusal::FIELD);
     }
     if 3 < f.mode {
         return Total::Refused(Refusal::FIELD);
     }
-    if directory::may_stand(directory::psp(), d.level, f.class) {
+    if directory::may_stand(kind, d.level, f.class) {
+        if entries::holds(buf, kind, d, f.class, f.subprogram) {
+            return Total::Refused(Refusal::REPEATED);
+        }
         if 512 <= d.total {
             return Total::Refused(Refusal::LIMITS);
         }
-        if len < 16 + (d.total as usize) * 16 + 16 {
+        if buf.len() < 16 + (d.total as usize) * 16 + 16 {
             return Total::Refused(Refusal::ROOM);
         }
         Total::Given(d.total + 1)
@@ -78,7 +82,7 @@ pub fn admit(buf: &[u8], f: Fields) -> Total
     ensures { λ r. ⌜ toldTotal r ≡ extendOf f (now (buf .entry)) ⌝ }
 {
     match directory::directory_by_cookie(buf, directory::psp(), 512, Offset(0)) {
-        Checked::Given(d) => room_for(buf.len(), d, f),
+        Checked::Given(d) => room_for(buf, d, f),
         Checked::Refused(why) => Total::Refused(why),
     }
 }

@@ -3,7 +3,7 @@ use build::Fields;
 use build::Total;
 use directory::Checked;
 use directory::Directory;
-use directory::Read;
+use entries::Read;
 use reply::Refusal;
 use window::Offset;
 
@@ -31,7 +31,7 @@ fn show_number(name: &[u8], number: u64) {
 }
 
 fn show_entry(buf: &[u8], d: Directory, i: usize) {
-    match directory::entry_in(buf, directory::psp(), d, i) {
+    match entries::entry_in(buf, directory::psp(), d, i) {
         Read::Given(e) => {
             io::write_all(1, b"ok");
             show_number(b" type", e.class as u64);

@@ -1,4 +1,4 @@
--- A directory is given exactly where it is good, and an entry exactly where the index is below the total. Assumes nothing.
+-- A directory is given exactly where it is good. Assumes nothing.
 use mathlib.Core.Path.{_≡_, refl, sym, ap, subst, _∙_}
 use mathlib.Core.Logic.{_⊎_, inl, inr}
 use mathlib.Core.List.{List}
@@ -12,12 +12,11 @@ use Rattle.le.specs.Le.{leAt}
 use Rattle.reply.specs.Reply.{Reply, given, refused, alone}
 use Rattle.reply.proofs.ReplyLaws.{past, passed, failed, clash}
 use Rattle.reply.proofs.ScanLaws.{scan-kept, scan-through}
-use Rattle.directory.specs.Directory.{cookieOf, totalAt, entryPlace, checksumAt, reservedZero, placedIn, wellPlaced, entryStep, directoryOf, entriesAt, directoryAt, directoryByCookie}
-use Rattle.directory.specs.Entry.{entryOf, entryIn}
-use Rattle.directory.specs.Good.{GoodEntry, GoodDirectory, Acceptance, CookieAcceptance, EntryAcceptance}
+use Rattle.directory.specs.Directory.{cookieOf, totalAt, entryPlace, checksumAt, reservedZero, placedIn, wellPlaced, mayRepeat, entryStep, directoryOf, entriesAt, directoryAt, directoryByCookie}
+use Rattle.directory.specs.Good.{GoodEntry, First, GoodDirectory, Acceptance, CookieAcceptance}
+use Rattle.directory.proofs.Heads.{first-fact, first-test}
 use Rattle.directory.specs.declared.Kind.{Kind}
 use Rattle.directory.specs.declared.Directory.{Directory}
-use Rattle.directory.specs.declared.Entry.{Entry}
 
 -- the test of a misplaced lead, as a fact and back
 module _ (kind : Kind) (level type : ℕ) where
@@ -33,14 +32,15 @@ module _ (kind : Kind) (level type : ℕ) where
 
 module _ (kind : Kind) (level : ℕ) (s : List ℕ) where
   module _ (limit o : ℕ) where
-    step-fact : (d : Directory) (i : ℕ) (rest : Reply Directory) → entryStep kind level s o i rest ≡ given d → GoodEntry kind level s (entryPlace kind o i) × (rest ≡ given d)
+    step-fact : (d : Directory) (i : ℕ) (rest : Reply Directory) → entryStep kind level s o i rest ≡ given d → (GoodEntry kind level s (entryPlace kind o i) × First kind s o i) × (rest ≡ given d)
     step-fact d i rest e =
         let g = past (reservedZero kind s (entryPlace kind o i)) _ _ _ e in
         let h = past (wellPlaced kind level s (entryPlace kind o i)) _ _ _ (g .1) in
-        (record { reserved = ltb-true _ _ (g .0); placed = placed-fact kind level (getD s (entryPlace kind o i) 0) (h .0) }, h .1)
+        let f = past (mayRepeat kind s o i) _ _ _ (h .1) in
+        ((record { reserved = ltb-true _ _ (g .0); placed = placed-fact kind level (getD s (entryPlace kind o i) 0) (h .0) }, first-fact kind s o i (f .0)), f .1)
 
-    step-pass : (i : ℕ) (rest : Reply Directory) → GoodEntry kind level s (entryPlace kind o i) → entryStep kind level s o i rest ≡ rest
-    step-pass i rest g = passed _ _ _ _ (lt-ltb _ _ (g .reserved)) ∙ passed _ _ _ _ (placed-test kind level (getD s (entryPlace kind o i) 0) (g .placed))
+    step-pass : (i : ℕ) (rest : Reply Directory) → GoodEntry kind level s (entryPlace kind o i) × First kind s o i → entryStep kind level s o i rest ≡ rest
+    step-pass i rest g = passed _ _ _ _ (lt-ltb _ _ (g .0 .reserved)) ∙ passed _ _ _ _ (placed-test kind level (getD s (entryPlace kind o i) 0) (g .0 .placed)) ∙ passed _ _ _ _ (first-test kind s o i (g .1))
 
     pub only-good : (d : Directory) → directoryAt kind limit level s o ≡ given d → GoodDirectory kind limit s d × (d .place .0 ≡ o) × (d .level ≡ level)
     unfolding directoryAt
@@ -52,7 +52,7 @@ module _ (kind : Kind) (level : ℕ) (s : List ℕ) where
         let h4 = past (leb (entryPlace kind o n) (length s)) _ _ _ (h3 .1) in
         let h5 = past (eqb (leAt 4 s (o + 4)) (checksumAt kind s o n)) _ _ _ (h4 .1) in
         let h6 = past (eqb (leAt 4 s (o + 12)) 0) _ _ _ (h5 .1) in
-        let w = scan-kept (entryStep kind level s o) (λ _. given (directoryOf o level n)) (λ i. GoodEntry kind level s (entryPlace kind o i)) d (step-fact d) n 0 (h6 .1) in
+        let w = scan-kept (entryStep kind level s o) (λ _. given (directoryOf o level n)) (λ i. GoodEntry kind level s (entryPlace kind o i) × First kind s o i) d (step-fact d) n 0 (h6 .1) in
         let q : directoryOf o level n ≡ d = cc (w .1) in
         subst (λ (d : Directory). GoodDirectory kind limit s d × (d .place .0 ≡ o) × (d .level ≡ level)) q (
           record {
@@ -62,7 +62,8 @@ module _ (kind : Kind) (level : ℕ) (s : List ℕ) where
             present = leb-true _ _ (h4 .0);
             checksum = eqb-true _ _ (h5 .0);
             reserved = eqb-true _ _ (h6 .0);
-            entries = λ i l. w .0 i (omega arith) (omega arith);
+            entries = λ i l. w .0 i (omega arith) (omega arith) .0;
+            first = λ i l. w .0 i (omega arith) (omega arith) .1;
           },
           refl,
           refl,
@@ -75,7 +76,7 @@ all-good kind limit s d g =
     let level = d .level in
     let head : o + 16 ≤ length s = let p = g .present in omega arith in
     simp (le-leb _ _ head, eq-eqb _ _ (g .cookie), g .total, le-leb _ _ (g .few), le-leb _ _ (g .present), eq-eqb _ _ (g .checksum), eq-eqb _ _ (g .reserved))
-    (scan-through (entryStep kind level s o) (λ _. given d) (λ i. GoodEntry kind level s (entryPlace kind o i)) (step-pass kind level s limit o) (d .total) 0 (λ j a b. g .entries j (omega arith)))
+    (scan-through (entryStep kind level s o) (λ _. given d) (λ i. GoodEntry kind level s (entryPlace kind o i) × First kind s o i) (step-pass kind level s limit o) (d .total) 0 (λ j a b. (g .entries j (omega arith), g .first j (omega arith))))
 
 pub acceptance : Acceptance
 acceptance = record { only = λ kind limit level s o. only-good kind level s limit o; all = all-good }
@@ -111,16 +112,3 @@ module _ (kind : Kind) (limit : ℕ) (s : List ℕ) where
 
 pub cookie-acceptance : CookieAcceptance
 cookie-acceptance = record { only = only-cookie; all = all-cookie }
-
-module _ (kind : Kind) (s : List ℕ) (d : Directory) (i : ℕ) where
-  pub only-entry : (e : Entry) → entryIn kind s d i ≡ given e → (i < d .total) × (entryOf kind s d i ≡ e)
-  only-entry e h = let g = past (ltb i (d .total)) _ _ _ h in (ltb-true _ _ (g .0), cc (g .1))
-
-  pub all-entry : i < d .total → entryIn kind s d i ≡ given (entryOf kind s d i)
-  all-entry h = passed _ _ _ _ (lt-ltb _ _ h)
-
-  behind-none : d .total ≤ i → entryIn kind s d i ≡ refused 8 alone
-  behind-none h = failed _ _ _ _ (le-ltb _ _ h)
-
-pub entry-acceptance : EntryAcceptance
-entry-acceptance = record { only = only-entry; all = all-entry; behind = behind-none }

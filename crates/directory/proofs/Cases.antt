@@ -10,10 +10,8 @@ use Rattle.le.specs.Le.{leAt}
 use Rattle.reply.specs.Reply.{Reply, refused, alone, guard}
 use Rattle.reply.proofs.ReplyLaws.{passed, failed}
 use Rattle.directory.specs.Directory.{cookieOf, totalAt, entryPlace, checksumAt, entriesAt, directoryAt, directoryByCookie}
-use Rattle.directory.specs.Entry.{fieldsAt}
 use Rattle.directory.specs.declared.Kind.{Kind}
 use Rattle.directory.specs.declared.Directory.{Directory}
-use Rattle.directory.specs.declared.Entry.{Entry}
 
 -- where 16 bytes are present, and a number was found at the start
 module _ (kind : Kind) (limit : ℕ) (s : List ℕ) (o found : ℕ) (is : found ≡ leAt 4 s o) (head : o + 16 ≤ length s) where
@@ -57,9 +55,3 @@ module _ (kind : Kind) (limit : ℕ) (s : List ℕ) (o found : ℕ) (is : found 
     pub by-neither : (found ≡ kind .two → ⊥) → refused 2 alone ≡ directoryByCookie kind limit s o
     unfolding directoryByCookie
     by-neither n = rw (le-leb (o + 16) (length s) head, ne-eqb (leAt 4 s o) (kind .one) (λ q. other (is ∙ q)), ne-eqb (leAt 4 s o) (kind .two) (λ q. n (is ∙ q)))
-
--- an entry's fields, read at its place e
-pub fields-read : (s : List ℕ) (p e class subprogram size word : ℕ) → e ≡ p → word ≡ leAt 8 s (e + 8) → class ≡ getD s e 0 → subprogram ≡ getD s (e + 1) 0 → size ≡ leAt 4 s (e + 4) →
-    _≡_ {A = Entry} (record { class = class; subprogram = subprogram; size = size; location = word % 0x4000_0000_0000_0000; mode = word / 0x4000_0000_0000_0000 }) (fieldsAt s p)
-fields-read s p e class subprogram size word at w a b z =
-    (λ i. record { class = a i; subprogram = b i; size = z i; location = w i % 0x4000_0000_0000_0000; mode = w i / 0x4000_0000_0000_0000 }) ∙ ap (fieldsAt s) at

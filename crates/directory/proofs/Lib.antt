@@ -1,7 +1,7 @@
 pub mod Told
 pub mod Cases
+pub mod Heads
+pub mod Steps
 pub mod Accept
-pub mod Lowest
-pub mod Parts
-pub mod PartAccept
 pub mod Independent
+pub mod Named

@@ -1,21 +1,22 @@
 -- A directory at an offset of an image, in document 01's words and order. Assumes nothing: these are definitions.
 use Prim.Native.Nat.{ℕ, _+_, _*_}
 use mathlib.Core.List.{List}
-use mathlib.Core.Bool.{Bool, true, not, cond}
+use mathlib.Core.Bool.{Bool, true, false, not, cond, _&&_, _||_}
 use lib.ListN.{length, getD, take, drop}
 use lib.Dec.{leb, ltb, eqb}
 use Rattle.le.specs.Le.{leAt}
 use Rattle.fletcher.specs.Fletcher.{fletcherOf}
 use Rattle.reply.specs.Reply.{Reply, given, refused, alone, guard}
 use Rattle.reply.specs.Scan.{scan}
+use Rattle.reply.specs.Some.{someBelow}
 use Rattle.directory.specs.declared.Kind.{Kind}
 use Rattle.directory.specs.declared.Directory.{Directory}
 use Rattle.directory.specs.declared.Checked.{Checked}
 use Rattle.directory.specs.declared.Checked.the-variants as checked
 
--- PSP directories: "$PSP" and "$PL2", entries of 16 bytes, type 0x40 leads to level two, type 0x0B is a value, the 16 bits at 2 are below 1
+-- PSP directories: "$PSP" and "$PL2", entries of 16 bytes, type 0x40 leads to level two, type 0x0B is a value, the 16 bits at 2 are below 1, no entry repeats
 abbrev pub pspKind : Kind
-pspKind = record { one = 0x5053_5024; two = 0x324C_5024; entry = 16; lead = 0x40; value = 0x0B; clear = 1 }
+pspKind = record { one = 0x5053_5024; two = 0x324C_5024; entry = 16; lead = 0x40; value = 0x0B; clear = 1; repeats = false }
 
 -- the cookie of a level: `one` of level one, `two` of level two; no other level is asked for (flashDirectory: 9)
 abbrev pub cookieOf : Kind → ℕ → ℕ
@@ -45,12 +46,26 @@ placedIn kind level type = cond (eqb level 1) true (not (eqb type (kind .lead)))
 abbrev pub wellPlaced : Kind → ℕ → List ℕ → ℕ → Bool
 wellPlaced kind level image e = placedIn kind level (getD image e 0)
 
+-- entries j and i have the same type and subprogram
+abbrev pub sameEntry : Kind → List ℕ → ℕ → ℕ → ℕ → Bool
+sameEntry kind image o i j =
+    eqb (getD image (entryPlace kind o j) 0) (getD image (entryPlace kind o i) 0) && eqb (getD image (entryPlace kind o j + 1) 0) (getD image (entryPlace kind o i + 1) 0)
+
+-- entry i has the type and subprogram of an earlier entry
+abbrev pub repeatsEarlier : Kind → List ℕ → ℕ → ℕ → Bool
+repeatsEarlier kind image o i = someBelow (sameEntry kind image o i) i
+
+-- it may: in a directory of a kind that may repeat, or as the first of its type and subprogram
+abbrev pub mayRepeat : Kind → List ℕ → ℕ → ℕ → Bool
+mayRepeat kind image o i = kind .repeats || not (repeatsEarlier kind image o i)
+
 -- the tests made at entry i, then the entries behind it
 abbrev pub entryStep : {A : Type 0} → Kind → ℕ → List ℕ → ℕ → ℕ → Reply A → Reply A
 entryStep kind level image o i rest =
     guard (reservedZero kind image (entryPlace kind o i)) 5  -- reserved zero (5)
     (guard (wellPlaced kind level image (entryPlace kind o i)) 14  -- misplaced 0x40 (14)
-    rest)
+    (guard (mayRepeat kind image o i) 18  -- repeats an earlier type and subprogram (18)
+    rest))
 
 -- a directory that is given: where it begins, its level, its total
 abbrev pub directoryOf : ℕ → ℕ → ℕ → Directory
@@ -70,7 +85,7 @@ directoryAt kind limit level image o =
     (guard (leb (entryPlace kind o n) (length image)) 1  -- all entries present (1)
     (guard (eqb (leAt 4 image (o + 4)) (checksumAt kind image o n)) 4  -- checksum (4)
     (guard (eqb (leAt 4 image (o + 12)) 0) 5  -- header reserved zero (5)
-    (entriesAt kind level image o n))))))  -- then entry by entry (5, 14)
+    (entriesAt kind level image o n))))))  -- then entry by entry (5, 14, 18)
 
 -- the directory at o of the level that its cookie names
 unfoldable pub directoryByCookie : Kind → ℕ → List ℕ → ℕ → Reply Directory

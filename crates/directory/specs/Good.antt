@@ -1,33 +1,36 @@
--- What a good directory, a lookup's match and an entry's part are, as plain facts; and that exactly these are given. Assumes nothing: these are statements.
+-- What a good directory is, and two entries that repeat, as plain facts; and that exactly these are given. Assumes nothing: these are statements.
 use Prim.Native.Nat.{ℕ, _+_, _-_, _<_, _≤_}
 use mathlib.Core.Path.{_≡_}
 use mathlib.Core.Logic.{_⊎_}
 use mathlib.Core.List.{List}
+use mathlib.Core.Bool.{false}
 use lib.ListN.{length, getD}
 use Rattle.le.specs.Le.{leAt, Bytes}
 use Rattle.reply.specs.Reply.{Carried, given, refused, alone, tested, OneToOne}
 use Rattle.reply.specs.Scan.{Lowest, None}
 use Rattle.directory.specs.Directory.{cookieOf, totalAt, entryPlace, checksumAt, directoryAt, directoryByCookie, toldDirectory}
-use Rattle.directory.specs.Entry.{fieldsAt, entryOf, entryIn, leadIn, findIn, toldEntry, toldLookup}
-use Rattle.directory.specs.Part.{partOf, partIn, toldPlace, toldPart}
+use Rattle.directory.specs.Repeat.{repeatedAt, toldRepeated}
 use Rattle.directory.specs.declared.Kind.{Kind}
 use Rattle.directory.specs.declared.Directory.{Directory}
-use Rattle.directory.specs.declared.Entry.{Entry}
-use Rattle.directory.specs.declared.Match.{Match}
-use Rattle.directory.specs.declared.Part.{Part}
+use Rattle.directory.specs.declared.Repeat.{Repeat}
 
 -- no two answers of a call tell the same
 pub record ToldApart : Type 0 where
   pub directory : OneToOne toldDirectory
-  pub entry : OneToOne toldEntry
-  pub lookup : OneToOne toldLookup
-  pub place : OneToOne toldPlace
-  pub part : OneToOne toldPart
+  pub repeated : OneToOne toldRepeated
 
 -- the entry at e: reserved bits zero, and no lead but in level one
 pub record GoodEntry (kind : Kind) (level : ℕ) (image : List ℕ) (e : ℕ) : Type 0 where
   pub reserved : leAt 2 image (e + 2) < kind .clear
   pub placed : (level ≡ 1 → ⊥) → getD image e 0 ≡ kind .lead → ⊥
+
+-- entries j and i have one type and subprogram
+abbrev pub Alike : Kind → List ℕ → ℕ → ℕ → ℕ → Type 0
+Alike kind image o i j = (getD image (entryPlace kind o j) 0 ≡ getD image (entryPlace kind o i) 0) × (getD image (entryPlace kind o j + 1) 0 ≡ getD image (entryPlace kind o i + 1) 0)
+
+-- entry i repeats no earlier one, in a directory of a kind that may not repeat
+abbrev pub First : Kind → List ℕ → ℕ → ℕ → Type 0
+First kind image o i = kind .repeats ≡ false → (j : ℕ) → j < i → Alike kind image o i j → ⊥
 
 -- the directory d
 pub record GoodDirectory (kind : Kind) (limit : ℕ) (image : List ℕ) (d : Directory) : Type 0 where
@@ -38,6 +41,7 @@ pub record GoodDirectory (kind : Kind) (limit : ℕ) (image : List ℕ) (d : Dir
   pub checksum : leAt 4 image (d .place .0 + 4) ≡ checksumAt kind image (d .place .0) (d .total)
   pub reserved : leAt 4 image (d .place .0 + 12) ≡ 0
   pub entries : (i : ℕ) → i < d .total → GoodEntry kind (d .level) image (entryPlace kind (d .place .0) i)
+  pub first : (i : ℕ) → i < d .total → First kind image (d .place .0) i
 
 -- a directory of the level asked for is given exactly where it is good
 pub record Acceptance : Type 0 where
@@ -52,56 +56,16 @@ pub record CookieAcceptance : Type 0 where
   pub all : (kind : Kind) (limit : ℕ) (image : List ℕ) (d : Directory) → (kind .one ≡ kind .two → ⊥) → GoodDirectory kind limit image d → (d .level ≡ 1) ⊎ (d .level ≡ 2) →
       directoryByCookie kind limit image (d .place .0) ≡ given d
 
--- an entry is given exactly where the index is below the total; at or above it 8, whatever lies behind
-pub record EntryAcceptance : Type 0 where
-  pub only : (kind : Kind) (image : List ℕ) (d : Directory) (i : ℕ) (e : Entry) → entryIn kind image d i ≡ given e → (i < d .total) × (entryOf kind image d i ≡ e)
-  pub all : (kind : Kind) (image : List ℕ) (d : Directory) (i : ℕ) → i < d .total → entryIn kind image d i ≡ given (entryOf kind image d i)
-  pub behind : (kind : Kind) (image : List ℕ) (d : Directory) (i : ℕ) → d .total ≤ i → entryIn kind image d i ≡ refused 8 alone
+-- entry i is the first of n that repeats an earlier one, and that is entry j
+pub record FirstRepeat (kind : Kind) (image : List ℕ) (o n i j : ℕ) : Type 0 where
+  pub inside : i < n
+  pub earlier : j < i
+  pub alike : Alike kind image o i j
+  pub none-before : (k l : ℕ) → k < i → l < k → Alike kind image o k l → ⊥
 
--- entry i leads to level two
-abbrev pub Leads : Kind → List ℕ → Directory → ℕ → Type 0
-Leads kind image d i = entryOf kind image d i .class ≡ kind .lead
-
--- entry i has this type and subprogram
-abbrev pub Matches : Kind → List ℕ → Directory → ℕ → ℕ → ℕ → Type 0
-Matches kind image d type sub i = (entryOf kind image d i .class ≡ type) × (entryOf kind image d i .subprogram ≡ sub)
-
--- the lead is the lowest entry that leads, or 8, and never otherwise
-pub record LowestLead : Type 0 where
-  pub found : (kind : Kind) (image : List ℕ) (d : Directory) (i : ℕ) → Lowest (Leads kind image d) (d .total) i → leadIn kind image d ≡ given (entryOf kind image d i)
-  pub absent : (kind : Kind) (image : List ℕ) (d : Directory) → None (Leads kind image d) (d .total) → leadIn kind image d ≡ refused 8 alone
-  pub found-only : (kind : Kind) (image : List ℕ) (d : Directory) (e : Entry) → leadIn kind image d ≡ given e →
-      (i : ℕ) × Lowest (Leads kind image d) (d .total) i × (entryOf kind image d i ≡ e)
-  pub absent-only : (kind : Kind) (image : List ℕ) (d : Directory) (number : ℕ) (carried : Carried) → leadIn kind image d ≡ refused number carried → None (Leads kind image d) (d .total)
-
--- the lookup gives the lowest match with its count, index + 1, or 8 with the total, and never otherwise
-pub record LowestMatch : Type 0 where
-  pub found : (kind : Kind) (image : List ℕ) (d : Directory) (type sub i : ℕ) → Lowest (Matches kind image d type sub) (d .total) i →
-      findIn kind image d type sub ≡ given (record { index = i; tested = i + 1 })
-  pub absent : (kind : Kind) (image : List ℕ) (d : Directory) (type sub : ℕ) → None (Matches kind image d type sub) (d .total) →
-      findIn kind image d type sub ≡ refused 8 (tested (d .total))
-  pub found-only : (kind : Kind) (image : List ℕ) (d : Directory) (type sub : ℕ) (m : Match) → findIn kind image d type sub ≡ given m →
-      Lowest (Matches kind image d type sub) (d .total) (m .index) × (m .tested ≡ m .index + 1)
-  pub absent-only : (kind : Kind) (image : List ℕ) (d : Directory) (type sub number : ℕ) (carried : Carried) → findIn kind image d type sub ≡ refused number carried →
-      None (Matches kind image d type sub) (d .total) × (number ≡ 8) × (carried ≡ tested (d .total))
-
--- where the bytes of entry e of a directory at o begin, in a window of so many bytes below 4 GiB
-pub data BeginsAt (window o : ℕ) (e : Entry) (place : ℕ) : Type 0 where
-  physical : e .mode ≡ 0 → e .location ≡ 0x1_0000_0000 - window + place → e .location ≤ 0xFFFF_FFFF → BeginsAt window o e place
-  flash : e .mode ≡ 1 → e .location ≡ place → BeginsAt window o e place
-  counted : e .mode ≡ 2 → o + e .location ≡ place → BeginsAt window o e place
-
--- the part p of the image holds the bytes of entry e
-pub record GoodPart (kind : Kind) (window : ℕ) (image : List ℕ) (o : ℕ) (e : Entry) (p : Part) : Type 0 where
-  pub no-value : e .class ≡ kind .value → ⊥
-  pub begins : BeginsAt window o e (p .place)
-  pub size : e .size ≡ p .length
-  pub inside : p .place + p .length ≤ length image
-
--- the part of entry i is given exactly where the index is below the total and the part good; its mode is of two bits, as that of an entry read from bytes is
-pub record PartAcceptance : Type 0 where
-  pub only : (kind : Kind) (window : ℕ) (image : List ℕ) (d : Directory) (i : ℕ) (p : Part) → entryOf kind image d i .mode ≤ 3 → partIn kind window image d i ≡ given p →
-      (i < d .total) × GoodPart kind window image (d .place .0) (entryOf kind image d i) p
-  pub all : (kind : Kind) (window : ℕ) (image : List ℕ) (d : Directory) (i : ℕ) (p : Part) → i < d .total → GoodPart kind window image (d .place .0) (entryOf kind image d i) p →
-      partIn kind window image d i ≡ given p
-  pub two-bits : (image : List ℕ) (e : ℕ) → Bytes image → fieldsAt image e .mode ≤ 3
+-- two entries are named exactly where the directory is refused with 18, and they are the first that repeats and the one it repeats
+pub record NamesBoth : Type 0 where
+  pub only : (kind : Kind) (limit level : ℕ) (image : List ℕ) (o : ℕ) (r : Repeat) → repeatedAt kind limit level image o ≡ given r →
+      (carried : Carried) × (directoryAt kind limit level image o ≡ refused 18 carried) × FirstRepeat kind image o (totalAt image o) (r .entry) (r .earlier)
+  pub all : (kind : Kind) (limit level : ℕ) (image : List ℕ) (o : ℕ) (carried : Carried) → directoryAt kind limit level image o ≡ refused 18 carried →
+      (r : Repeat) × (repeatedAt kind limit level image o ≡ given r)

@@ -4,8 +4,6 @@ use mathlib.Core.Path.{_≡_}
 use mathlib.Core.List.{List}
 use lib.ListN.{length, getD}
 use Rattle.directory.specs.Directory.{totalAt, entryPlace, directoryAt, directoryByCookie}
-use Rattle.directory.specs.Entry.{entryIn, leadIn, findIn}
-use Rattle.directory.specs.Part.{partIn}
 use Rattle.directory.specs.declared.Kind.{Kind}
 use Rattle.directory.specs.declared.Directory.{Directory}
 
@@ -25,11 +23,3 @@ pub record Independence : Type 0 where
       directoryAt kind limit level image o ≡ directoryAt kind limit level other o
   pub by-cookie : (kind : Kind) (limit : ℕ) (image other : List ℕ) (o : ℕ) → 16 ≤ kind .entry → Agree image other o (entryPlace kind o (totalAt image o)) →
       directoryByCookie kind limit image o ≡ directoryByCookie kind limit other o
-  pub entry : (kind : Kind) (image other : List ℕ) (d : Directory) (i : ℕ) → 16 ≤ kind .entry → Agree image other (d .place .0) (endOf kind d) →
-      entryIn kind image d i ≡ entryIn kind other d i
-  pub lead : (kind : Kind) (image other : List ℕ) (d : Directory) → 16 ≤ kind .entry → Agree image other (d .place .0) (endOf kind d) →
-      leadIn kind image d ≡ leadIn kind other d
-  pub lookup : (kind : Kind) (image other : List ℕ) (d : Directory) (type sub : ℕ) → 16 ≤ kind .entry → Agree image other (d .place .0) (endOf kind d) →
-      findIn kind image d type sub ≡ findIn kind other d type sub
-  pub part : (kind : Kind) (window : ℕ) (image other : List ℕ) (d : Directory) (i : ℕ) → 16 ≤ kind .entry → Agree image other (d .place .0) (endOf kind d) →
-      partIn kind window image d i ≡ partIn kind window other d i

@@ -1,5 +1,5 @@
 pub mod Directory
-pub mod Entry
-pub mod Part
+pub mod Looks
+pub mod Repeat
 pub mod Good
 pub mod Independent

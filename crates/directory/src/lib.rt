@@ -1,20 +1,20 @@
-// A directory at an offset of an image: its checks, its entries, where their locations lead, and the lookup with its count.
+// A directory at an offset of an image: its checks, and which of its entries repeat.
 ghost use mathlib.Core.Path.{_≡_};
-ghost use Prim.Native.Nat.{_<_, _≤_, _^_, _+_, _*_};
+ghost use Prim.Native.Nat.{_<_, _≤_, _^_, _+_, _*_, _/_, _%_};
 ghost use lib.ListN.{length, getD};
-ghost use lib.Dec.{eqb};
+ghost use lib.Dec.{eqb, ltb};
+ghost use mathlib.Core.Bool.{false, _||_};
 ghost use Rattle.le.specs.Le.{leAt};
 ghost use Rattle.reply.specs.Reply.{guard};
-ghost use Rattle.directory.specs.Directory.{pspKind, cookieOf, entryPlace, checksumAt, reservedZero, placedIn, wellPlaced, entriesAt, directoryAt, directoryByCookie, toldDirectory};
-ghost use Rattle.directory.specs.Entry.{fieldsAt, entryIn, toldEntry, leadIn, matchOf, findIn, toldLookup};
-ghost use Rattle.directory.specs.Part.{within, leadsTo, toldPlace, rangedAt, partOf, partIn, toldPart, bytesOf, beginOf};
+ghost use Rattle.reply.specs.Some.{someBelow, firstBelow};
+ghost use Rattle.directory.specs.Directory.{pspKind, cookieOf, entryPlace, checksumAt, placedIn, sameEntry, repeatsEarlier, entriesAt, directoryAt, directoryByCookie, toldDirectory};
+ghost use Rattle.directory.specs.Repeat.{earlierOf, repeatIn, repeatedAt, toldRepeated};
+ghost use Rattle.directory.specs.Looks.{headAt, faultyHead, faultyAt, badAt, endedAt};
 use reply::Refusal;
-use window::Converted;
 use window::Offset;
-use window::Physical;
 
 // What kinds of directory differ in: the cookies of the two levels, an entry's bytes, the type that leads to level two,
-// the type that holds a value, and what the 16 bits at 2 of an entry must be below.
+// the type that holds a value, what the 16 bits at 2 of an entry must be below, and whether an entry may repeat an earlier type and subprogram.
 pub struct Kind {
     pub one: u32,
     pub two: u32,
@@ -22,6 +22,7 @@ pub struct Kind {
     pub lead: u8,
     pub value: u16,
     pub clear: u16,
+    pub repeats: bool,
 }
 
 // PSP directories.
@@ -35,6 +36,7 @@ pub fn psp() -> Kind
         lead: 0x40,
         value: 0x0B,
         clear: 1,
+        repeats: false,
     }
 }
 
@@ -59,19 +61,31 @@ pub fn cookie(kind: Kind, level: u32) -> u32
 }
 
 // Where entry i begins.
-fn entry_place(kind: Kind, at: Offset, i: u32) -> usize
+pub fn entry_place(kind: Kind, at: Offset, i: u32) -> usize
     ensures { λ r. ⌜ r ≡ entryPlace kind (at .0) i ⌝ }
     ensures { λ r. ⌜ r < 2 ^ 48 ⌝ }
 {
     (at.0 as usize) + 16 + (i as usize) * (kind.entry as usize)
 }
 
-// Are entry i's reserved bits zero?
-fn reserved_zero(image: &[u8], kind: Kind, at: Offset, i: u32) -> bool
-    ensures { λ r. ⌜ r ≡ reservedZero kind (now (image .entry)) (entryPlace kind (at .0) i) ⌝ }
+// The first four bytes of entry i, which lies in the image, as a number: its type, its subprogram, and its 16 bits at 2.
+fn head_of(image: &[u8], kind: Kind, at: Offset, i: u32) -> u32
+    requires { ⌜ at .0 + 16 + i * kind .entry + kind .entry ≤ length (now image) ⌝ }
+    ensures { λ r. ⌜ r ≡ headAt kind (now (image .entry)) (at .0) i ⌝ }
 {
     let e = entry_place(kind, at, i);
-    le::u16_at(image, e + 2) < kind.clear
+    // No kind has entries as short as that; the test is made once, and the reads of a loop need none.
+    if kind.entry < 4 {
+        return le::u32_at(image, e);
+    }
+    le::u32_at(&image[e..e + 4], 0)
+}
+
+// Are the reserved bits of an entry that begins like this zero?
+fn reserved_zero(kind: Kind, head: u32) -> bool
+    ensures { λ r. ⌜ r ≡ ltb (head / 65536) (kind .clear) ⌝ }
+{
+    head < 65536 * (kind.clear as u32)
 }
 
 // May an entry of this type stand in a directory of this level?
@@ -84,35 +98,131 @@ pub fn may_stand(kind: Kind, level: u32, class: u8) -> bool
     class != kind.lead
 }
 
-// May entry i stand in a directory of this level?
-fn well_placed(image: &[u8], kind: Kind, level: u32, at: Offset, i: u32) -> bool
-    ensures { λ r. ⌜ r ≡ wellPlaced kind level (now (image .entry)) (entryPlace kind (at .0) i) ⌝ }
+// Is an entry that begins like this at fault by itself: reserved bits that are not zero, or a lead that is misplaced?
+fn faulty(kind: Kind, level: u32, head: u32) -> bool
+    ensures { λ r. ⌜ r ≡ faultyHead kind level head ⌝ }
 {
-    let e = entry_place(kind, at, i);
-    may_stand(kind, level, le::byte_at(image, e))
+    if reserved_zero(kind, head) {
+        !may_stand(kind, level, (head % 256) as u8)
+    } else {
+        true
+    }
 }
 
-// The first refusal among the n entries, or the directory.
-fn entries(image: &[u8], kind: Kind, level: u32, at: Offset, n: u32) -> Checked
-    ensures { λ r. ⌜ toldDirectory r ≡ entriesAt kind level (now (image .entry)) (at .0) n ⌝ }
+// The first of the n entries that is at fault by itself, or n.
+fn first_fault(image: &[u8], kind: Kind, level: u32, at: Offset, n: u32) -> u32
+    requires { ⌜ at .0 + 16 + n * kind .entry ≤ length (now image) ⌝ }
+    ensures { λ r. ⌜ r ≡ firstBelow (faultyAt kind level (now (image .entry)) (at .0)) n ⌝ }
 {
     let mut i: u32 = 0;
     while i < n {
-        if reserved_zero(image, kind, at, i) {
-            if well_placed(image, kind, level, at, i) {
-                i += 1;
-            } else {
-                return Checked::Refused(Refusal::MISPLACED);
-            }
-        } else {
-            return Checked::Refused(Refusal::FIELD);
+        if faulty(kind, level, head_of(image, kind, at, i)) {
+            return i;
         }
+        i += 1;
+    }
+    n
+}
+
+// Is one of the two true? A loop that asks this has no branch to make.
+fn either(a: bool, b: bool) -> bool
+    ensures { λ r. ⌜ r ≡ (a || b) ⌝ }
+{
+    if a { true } else { b }
+}
+
+// Is some of the n entries at fault, by itself or since it repeats an earlier one? Each type and subprogram that was seen has a mark.
+fn bad_by_marks(image: &[u8], kind: Kind, level: u32, at: Offset, n: u32) -> bool
+    requires { ⌜ at .0 + 16 + n * kind .entry ≤ length (now image) ⌝ }
+    ensures { λ r. ⌜ r ≡ someBelow (badAt kind level (now (image .entry)) (at .0)) n ⌝ }
+{
+    let mut seen = [1u64; 1024];
+    let mut bad = false;
+    let mut i: u32 = 0;
+    while i < n {
+        let head = head_of(image, kind, at, i);
+        let pair = (head % 65536) as u16;
+        let w = marks::cell(pair);
+        let word = seen[w];
+        bad = either(
+            either(faulty(kind, level, head), marks::marked(word, pair)),
+            bad,
+        );
+        seen[w] = marks::with_mark(word, pair);
+        i += 1;
+    }
+    bad
+}
+
+// The same with 64 words of marks, which are sooner ready: enough where every subprogram is below 16. One that is not makes the answer yes.
+fn bad_by_few_marks(image: &[u8], kind: Kind, level: u32, at: Offset, n: u32) -> bool
+    requires { ⌜ at .0 + 16 + n * kind .entry ≤ length (now image) ⌝ }
+    ensures { λ r. ⌜ (r ≡ false → someBelow (badAt kind level (now (image .entry)) (at .0)) n ≡ false) ⌝ }
+{
+    let mut seen = [1u64; 64];
+    let mut bad = false;
+    let mut i: u32 = 0;
+    while i < n {
+        let head = head_of(image, kind, at, i);
+        let pair = (head % 65536) as u16;
+        let w = marks::cell(pair) % 64;
+        let word = seen[w];
+        let again = either(4096 <= pair, marks::marked(word, pair));
+        bad = either(either(faulty(kind, level, head), again), bad);
+        seen[w] = marks::with_mark(word, pair);
+        i += 1;
+    }
+    bad
+}
+
+// Is some of the n entries at fault? Where they are few, few marks tell it of most directories.
+fn some_bad(image: &[u8], kind: Kind, level: u32, at: Offset, n: u32) -> bool
+    requires { ⌜ at .0 + 16 + n * kind .entry ≤ length (now image) ⌝ }
+    ensures { λ r. ⌜ r ≡ someBelow (badAt kind level (now (image .entry)) (at .0)) n ⌝ }
+{
+    if n <= 64 {
+        if !bad_by_few_marks(image, kind, level, at, n) {
+            return false;
+        }
+    }
+    bad_by_marks(image, kind, level, at, n)
+}
+
+// The answer of n entries of which the first at fault by itself is `end`, or end is n, and of which none before it repeats where it may not.
+fn ended(image: &[u8], kind: Kind, level: u32, at: Offset, n: u32, end: u32) -> Checked
+    requires { ⌜ at .0 + 16 + n * kind .entry ≤ length (now image) ⌝ }
+    ensures { λ r. ⌜ toldDirectory r ≡ endedAt kind level (now (image .entry)) (at .0) n end ⌝ }
+{
+    if end < n {
+        if reserved_zero(kind, head_of(image, kind, at, end)) {
+            return Checked::Refused(Refusal::MISPLACED);
+        }
+        return Checked::Refused(Refusal::FIELD);
     }
     Checked::Given(Directory {
         place: at,
         level: level,
         total: n,
     })
+}
+
+// The first refusal among the n entries, or the directory. Most directories are good, and one pass tells; else the order is found out.
+fn entries(image: &[u8], kind: Kind, level: u32, at: Offset, n: u32) -> Checked
+    requires { ⌜ at .0 + 16 + n * kind .entry ≤ length (now image) ⌝ }
+    ensures { λ r. ⌜ toldDirectory r ≡ entriesAt kind level (now (image .entry)) (at .0) n ⌝ }
+{
+    if kind.repeats {
+        let end = first_fault(image, kind, level, at, n);
+        return ended(image, kind, level, at, n, end);
+    }
+    if some_bad(image, kind, level, at, n) {
+        let end = first_fault(image, kind, level, at, n);
+        if some_bad(image, kind, level, at, end) {
+            return Checked::Refused(Refusal::REPEATED);
+        }
+        return ended(image, kind, level, at, n, end);
+    }
+    ended(image, kind, level, at, n, n)
 }
 
 // The checks of a directory whose n entries lie in the image: checksum, header reserved, entries.
@@ -172,226 +282,91 @@ pub fn directory_by_cookie(image: &[u8], kind: Kind, limit: u32, at: Offset) -> 
     Checked::Refused(Refusal::SIGNATURE)
 }
 
-// An entry's fields. A location of mode 0 is physical, of mode 1 a flash offset, and of mode 2 counts from the directory.
-pub struct Entry {
+// Two entries of one type and subprogram: the one that repeats, the earlier one, and what both have.
+pub struct Repeat {
+    pub entry: u32,
+    pub earlier: u32,
     pub class: u8,
     pub subprogram: u8,
-    pub size: u32,
-    pub location: u64,
-    pub mode: u8,
 }
 
-// What reading an entry answers.
-pub enum Read {
-    Given(Entry),
+// Which entries repeat: the first such two, or why there are none.
+pub enum Repeated {
+    Given(Repeat),
     Refused(Refusal),
 }
 
-// Entry i, as the bytes there tell it.
-fn entry_of(image: &[u8], kind: Kind, at: Offset, i: u32) -> Entry
-    ensures { λ r. ⌜ r ≡ fieldsAt (now (image .entry)) (entryPlace kind (at .0) i) ⌝ }
+// Have entries i and j the same type and subprogram?
+fn same_entry(image: &[u8], kind: Kind, at: Offset, i: u32, j: u32) -> bool
+    ensures { λ r. ⌜ r ≡ sameEntry kind (now (image .entry)) (at .0) i j ⌝ }
 {
+    let a = entry_place(kind, at, i);
+    let b = entry_place(kind, at, j);
+    if le::byte_at(image, b) == le::byte_at(image, a) {
+        le::byte_at(image, b + 1) == le::byte_at(image, a + 1)
+    } else {
+        false
+    }
+}
+
+// The first entry before i that has its type and subprogram, or i.
+fn earlier_of(image: &[u8], kind: Kind, at: Offset, i: u32) -> u32
+    ensures { λ r. ⌜ r ≡ earlierOf kind (now (image .entry)) (at .0) i ⌝ }
+{
+    let mut j: u32 = 0;
+    while j < i {
+        if same_entry(image, kind, at, i, j) {
+            return j;
+        }
+        j += 1;
+    }
+    i
+}
+
+// The first of the n entries that repeats an earlier one, or n.
+fn first_repeat(image: &[u8], kind: Kind, at: Offset, n: u32) -> u32
+    ensures { λ r. ⌜ r ≡ firstBelow (repeatsEarlier kind (now (image .entry)) (at .0)) n ⌝ }
+{
+    let mut i: u32 = 0;
+    while i < n {
+        if earlier_of(image, kind, at, i) < i {
+            return i;
+        }
+        i += 1;
+    }
+    n
+}
+
+// The first of the n entries that repeats an earlier one, and that one.
+fn repeat_in(image: &[u8], kind: Kind, at: Offset, n: u32) -> Repeat
+    ensures { λ r. ⌜ r ≡ repeatIn kind (now (image .entry)) (at .0) n ⌝ }
+{
+    let i = first_repeat(image, kind, at, n);
     let e = entry_place(kind, at, i);
-    let word = le::u64_at(image, e + 8);
-    Entry {
+    Repeat {
+        entry: i,
+        earlier: earlier_of(image, kind, at, i),
         class: le::byte_at(image, e),
         subprogram: le::byte_at(image, e + 1),
-        size: le::u32_at(image, e + 4),
-        location: word % 0x4000_0000_0000_0000,
-        mode: (word / 0x4000_0000_0000_0000) as u8,
     }
 }
 
-// Entry i of a directory.
-pub fn entry_in(image: &[u8], kind: Kind, d: Directory, i: usize) -> Read
-    ensures { λ r. ⌜ toldEntry r ≡ entryIn kind (now (image .entry)) d i ⌝ }
+// Of a directory of a level that is refused since an entry repeats: which two entries. Every other refusal stays, and a good directory has none (8).
+pub fn repeated_at(image: &[u8], kind: Kind, limit: u32, level: u32, at: Offset) -> Repeated
+    ensures { λ r. ⌜ toldRepeated r ≡ repeatedAt kind limit level (now (image .entry)) (at .0) ⌝ }
 {
-    if i < (d.total as usize) {
-        Read::Given(entry_of(image, kind, d.place, i as u32))
-    } else {
-        Read::Refused(Refusal::ABSENT)
-    }
-}
-
-// The type of entry i.
-pub fn class_of(image: &[u8], kind: Kind, at: Offset, i: u32) -> u8
-    ensures { λ r. ⌜ r ≡ getD (now (image .entry)) (entryPlace kind (at .0) i) 0 ⌝ }
-{
-    le::byte_at(image, entry_place(kind, at, i))
-}
-
-// The lowest entry of a directory that leads to level two.
-pub fn lead_in(image: &[u8], kind: Kind, d: Directory) -> Read
-    ensures { λ r. ⌜ toldEntry r ≡ leadIn kind (now (image .entry)) d ⌝ }
-{
-    let n = d.total;
-    let mut i: u32 = 0;
-    while i < n {
-        if class_of(image, kind, d.place, i) == kind.lead {
-            return Read::Given(entry_of(image, kind, d.place, i));
+    match directory_at(image, kind, limit, level, at) {
+        Checked::Given(_) => Repeated::Refused(Refusal::ABSENT),
+        Checked::Refused(why) => {
+            if why.number == 18 {
+                return Repeated::Given(repeat_in(
+                    image,
+                    kind,
+                    at,
+                    le::u32_at(image, (at.0 as usize) + 8),
+                ));
+            }
+            Repeated::Refused(why)
         }
-        i += 1;
-    }
-    Read::Refused(Refusal::ABSENT)
-}
-
-// A lookup's match: its index, and the number of entries tested.
-pub struct Match {
-    pub index: u32,
-    pub tested: u32,
-}
-
-// What a lookup answers: a match, how many entries were tested where none matches, or why there was no lookup.
-pub enum Lookup {
-    Given(Match),
-    Absent(u32),
-    Refused(Refusal),
-}
-
-// Does an entry have this type and subprogram?
-pub fn matches(e: Entry, class: u8, sub: u8) -> bool
-    ensures { λ r. ⌜ r ≡ matchOf e class sub ⌝ }
-{
-    if e.class == class {
-        e.subprogram == sub
-    } else {
-        false
-    }
-}
-
-// Does entry i have this type and subprogram? Its first two bytes tell.
-pub fn entry_matches(image: &[u8], kind: Kind, at: Offset, i: u32, class: u8, sub: u8) -> bool
-    ensures { λ r. ⌜ r ≡ matchOf (fieldsAt (now (image .entry)) (entryPlace kind (at .0) i)) class sub ⌝ }
-{
-    let e = entry_place(kind, at, i);
-    if le::byte_at(image, e) == class {
-        le::byte_at(image, e + 1) == sub
-    } else {
-        false
-    }
-}
-
-// The lookup by type and subprogram in a directory.
-pub fn find_in(image: &[u8], kind: Kind, d: Directory, class: u8, sub: u8) -> Lookup
-    ensures { λ r. ⌜ toldLookup r ≡ findIn kind (now (image .entry)) d class sub ⌝ }
-{
-    let n = d.total;
-    let mut i: u32 = 0;
-    while i < n {
-        if entry_matches(image, kind, d.place, i, class, sub) {
-            return Lookup::Given(Match {
-                index: i,
-                tested: i + 1,
-            });
-        }
-        i += 1;
-    }
-    Lookup::Absent(n)
-}
-
-// Where a location leads: a place in the image, counted from its first byte.
-pub enum Led {
-    Given(usize),
-    Refused(Refusal),
-}
-
-// The place base + location, where it does not lie beyond the image.
-fn counted(image: &[u8], base: u32, location: u64) -> Led
-    ensures { λ r. ⌜ toldPlace r ≡ within (now (image .entry)) (base + location) ⌝ }
-{
-    let from = location as usize;
-    let base = base as usize;
-    if image.len() < from {
-        return Led::Refused(Refusal::OUTSIDE);
-    }
-    if image.len() - from < base {
-        return Led::Refused(Refusal::OUTSIDE);
-    }
-    Led::Given(base + from)
-}
-
-// Where the location of an entry leads, in a directory at an offset, through a window of so many bytes.
-pub fn leads_to(image: &[u8], window: u32, at: Offset, e: Entry) -> Led
-    ensures { λ r. ⌜ toldPlace r ≡ leadsTo window (now (image .entry)) (at .0) e ⌝ }
-{
-    if e.mode == 3 {
-        return Led::Refused(Refusal::MODE);
-    }
-    if e.mode == 0 {
-        match Physical(e.location).offset(window) {
-            Converted::Given(o) => return counted(image, o.0, 0),
-            Converted::Refused(why) => return Led::Refused(why),
-        }
-    }
-    if e.mode == 1 {
-        return counted(image, 0, e.location);
-    }
-    counted(image, at.0, e.location)
-}
-
-// A part of the image: where it begins, and its length.
-pub struct Part {
-    pub place: usize,
-    pub length: usize,
-}
-
-// What the place of an entry's bytes answers.
-pub enum Placed {
-    Given(Part),
-    Refused(Refusal),
-}
-
-// The part of so many bytes at a place, where it ends within the image.
-fn ranged(image: &[u8], place: usize, size: u32) -> Placed
-    ensures { λ r. ⌜ toldPart r ≡ rangedAt (now (image .entry)) size place ⌝ }
-{
-    let length = size as usize;
-    if image.len() < place {
-        return Placed::Refused(Refusal::OUTSIDE);
-    }
-    if image.len() - place < length {
-        return Placed::Refused(Refusal::OUTSIDE);
-    }
-    Placed::Given(Part {
-        place: place,
-        length: length,
-    })
-}
-
-// Where an entry's bytes lie.
-fn part_of(image: &[u8], kind: Kind, window: u32, at: Offset, e: Entry) -> Placed
-    ensures { λ r. ⌜ toldPart r ≡ partOf kind window (now (image .entry)) (at .0) e ⌝ }
-{
-    if (e.class as u16) == kind.value {
-        return Placed::Refused(Refusal::VALUE);
-    }
-    match leads_to(image, window, at, e) {
-        Led::Given(place) => ranged(image, place, e.size),
-        Led::Refused(why) => Placed::Refused(why),
-    }
-}
-
-// Where the bytes of entry i of a directory lie, or why there are none.
-pub fn part_in(image: &[u8], kind: Kind, window: u32, d: Directory, i: usize) -> Placed
-    ensures { λ r. ⌜ toldPart r ≡ partIn kind window (now (image .entry)) d i ⌝ }
-{
-    match entry_in(image, kind, d, i) {
-        Read::Given(e) => part_of(image, kind, window, d.place, e),
-        Read::Refused(why) => Placed::Refused(why),
-    }
-}
-
-// The bytes of entry i of a directory: that part of the caller's image. Where refused there are none, and `part_in` gives the number.
-pub fn bytes_in<'a>(image: &'a [u8], kind: Kind, window: u32, d: Directory, i: usize) -> &'a [u8]
-    ensures { λ r. ⌜ now r ≡ bytesOf (now (image .entry)) (partIn kind window (now (image .entry)) d i) ⌝ }
-    ensures { λ r. ⌜ r .ptr ≡ beginOf (image .entry .ptr) (partIn kind window (now (image .entry)) d i) ⌝ }
-{
-    match part_in(image, kind, window, d, i) {
-        Placed::Given(p) => {
-            let start = p.place;
-            let end = start + p.length;
-            &image[start..end]
-        }
-        Placed::Refused(_) => &image[0..0],
     }
 }

@@ -18,14 +18,15 @@ use Rattle.window.specs.Window.{offsetIn}
 use Rattle.window.proofs.Inside.{offset-fact, offset-given}
 use Rattle.window.specs.declared.Offset.{Offset}
 use Rattle.directory.specs.Directory.{directoryAt}
-use Rattle.directory.specs.Entry.{entryOf, leadIn}
-use Rattle.directory.specs.Part.{leadsTo}
-use Rattle.directory.specs.Good.{Leads, BeginsAt, GoodDirectory}
+use Rattle.entries.specs.Entry.{entryOf, leadIn}
+use Rattle.entries.specs.Part.{leadsTo}
+use Rattle.directory.specs.Good.{GoodDirectory}
+use Rattle.entries.specs.Good.{Leads, BeginsAt}
 use Rattle.directory.specs.declared.Directory.{Directory}
-use Rattle.directory.specs.declared.Entry.{Entry}
+use Rattle.entries.specs.declared.Entry.{Entry}
 use Rattle.directory.proofs.Accept.{acceptance}
-use Rattle.directory.proofs.Lowest.{lowest-lead}
-use Rattle.directory.proofs.PartAccept.{lead-fact, lead-given, part-acceptance}
+use Rattle.entries.proofs.Lowest.{lowest-lead}
+use Rattle.entries.proofs.PartAccept.{lead-fact, lead-given, part-acceptance}
 use Rattle.flash.specs.Efs.{counts, candidateAt, orElse, efsStep, efsOf, efsAt, efsIn, absent, inImage, pointerTo, pointerFrom, pointerOf, pointerIn}
 use Rattle.flash.specs.Flash.{Reading, levelOne, levelTwoAt, levelTwo, flashDirectory}
 use Rattle.flash.specs.declared.Efs.{Efs}

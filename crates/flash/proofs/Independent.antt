@@ -9,13 +9,15 @@ use Rattle.reply.proofs.ReplyLaws.{then-given, then-same}
 use Rattle.window.specs.Window.{offsetIn}
 use Rattle.window.specs.declared.Offset.{Offset}
 use Rattle.directory.specs.Directory.{directoryAt, entryPlace, totalAt}
-use Rattle.directory.specs.Entry.{entryIn, leadIn, findIn}
-use Rattle.directory.specs.Part.{leadsTo, partIn}
+use Rattle.entries.specs.Entry.{entryIn, leadIn, findIn}
+use Rattle.entries.specs.Part.{leadsTo, partIn}
 use Rattle.directory.specs.Independent.{Agree, endOf}
 use Rattle.directory.specs.declared.Directory.{Directory}
-use Rattle.directory.specs.declared.Entry.{Entry}
-use Rattle.directory.proofs.Accept.{acceptance, entry-acceptance}
-use Rattle.directory.proofs.Independent.{independence, leads-same}
+use Rattle.entries.specs.declared.Entry.{Entry}
+use Rattle.directory.proofs.Accept.{acceptance}
+use Rattle.entries.proofs.Accept.{entry-acceptance}
+use Rattle.directory.proofs.Independent.{independence}
+use Rattle.entries.proofs.Independent.{leads-same, entries-independence}
 use Rattle.flash.specs.Efs.{efsOf, efsAt, efsIn, inImage, pointerTo, pointerOf, pointerIn}
 use Rattle.flash.specs.declared.Efs.{Efs}
 use Rattle.flash.specs.declared.Pointer.{Pointer}
@@ -71,7 +73,7 @@ module _ (r : Reading) (level : ℕ) (s t : List ℕ) (wide : 16 ≤ r .kind .en
       by l q z (two above a e) =
           let k = then-given (leadIn (r .kind) s above) (levelTwoAt (r .kind) (r .limit) (r .window) s (above .place .0)) e in
           let p = then-given (leadsTo (r .window) s (above .place .0) (k .0)) (directoryAt (r .kind) (r .limit) 2 s) (k .2) in
-          let lead = sym (independence .lead (r .kind) s t above wide (way .directories 1 (omega arith) above (open-one r s above z a))) ∙ k .1 in
+          let lead = sym (entries-independence .lead (r .kind) s t above wide (way .directories 1 (omega arith) above (open-one r s above z a))) ∙ k .1 in
           let place = sym (leads-same (r .window) s t (way .long) (above .place .0) (k .0)) ∙ p .1 in
           open-two r t d (long z) above (same-one z above (omega arith) a)
           (ap (λ (x : Reply Entry). then x (levelTwoAt (r .kind) (r .limit) (r .window) t (above .place .0))) lead
@@ -87,14 +89,14 @@ module _ (r : Reading) (level : ℕ) (s t : List ℕ) (wide : 16 ≤ r .kind .en
   same-find : (d : Directory) (type sub : ℕ) → flashDirectory r level s ≡ given d → flashFind r level t type sub ≡ flashFind r level s type sub
   same-find d type sub e =
       ap (λ (x : Reply Directory). then (fromLookup x) (λ d. findIn (r .kind) t d type sub)) (same-directory d e)
-      ∙ sym (independence .lookup (r .kind) s t d type sub wide (way .directories level (omega arith) d e))
+      ∙ sym (entries-independence .lookup (r .kind) s t d type sub wide (way .directories level (omega arith) d e))
       ∙ ap (λ (x : Reply Directory). then (fromLookup x) (λ d. findIn (r .kind) s d type sub)) (sym e)
 
 pub flash-independence : FlashIndependence
 flash-independence = record {
   directory = λ r level s t d wide way. same-directory r level s t wide way d;
-  entry = λ r level s t d i wide way e. same-after r level s t wide way (λ s d. entryIn (r .kind) s d i) d e (independence .entry (r .kind) s t d i wide);
-  part = λ r level s t d i wide way e. same-after r level s t wide way (λ s d. partIn (r .kind) (r .window) s d i) d e (independence .part (r .kind) (r .window) s t d i wide);
+  entry = λ r level s t d i wide way e. same-after r level s t wide way (λ s d. entryIn (r .kind) s d i) d e (entries-independence .entry (r .kind) s t d i wide);
+  part = λ r level s t d i wide way e. same-after r level s t wide way (λ s d. partIn (r .kind) (r .window) s d i) d e (entries-independence .part (r .kind) (r .window) s t d i wide);
   lookup = λ r level s t d type sub wide way. same-find r level s t wide way d type sub;
   behind = λ r level s d i e h. ap (λ (x : Reply Directory). then x (λ d. entryIn (r .kind) s d i)) e ∙ entry-acceptance .behind (r .kind) s d i h;
 }

@@ -10,8 +10,8 @@ use lib.Dec.{leb, eqb}
 use Rattle.reply.specs.Reply.{Reply, given, then}
 use Rattle.reply.proofs.ReplyLaws.{past, passed, then-given}
 use Rattle.directory.specs.Directory.{directoryAt}
-use Rattle.directory.specs.Entry.{leadIn}
-use Rattle.directory.specs.Part.{leadsTo}
+use Rattle.entries.specs.Entry.{leadIn}
+use Rattle.entries.specs.Part.{leadsTo}
 use Rattle.directory.specs.declared.Directory.{Directory}
 use Rattle.directory.proofs.Accept.{acceptance}
 use Rattle.flash.specs.Efs.{pointerIn}

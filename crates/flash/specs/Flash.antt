@@ -7,13 +7,13 @@ use lib.Dec.{leb, eqb}
 use Rattle.reply.specs.Reply.{Reply, given, refused, tested, guard, then}
 use Rattle.window.specs.Window.{baseWindow}
 use Rattle.directory.specs.Directory.{pspKind, directoryAt}
-use Rattle.directory.specs.Entry.{entryIn, leadIn, findIn}
-use Rattle.directory.specs.Part.{leadsTo, partIn}
+use Rattle.entries.specs.Entry.{entryIn, leadIn, findIn}
+use Rattle.entries.specs.Part.{leadsTo, partIn}
 use Rattle.directory.specs.declared.Kind.{Kind}
 use Rattle.directory.specs.declared.Directory.{Directory}
-use Rattle.directory.specs.declared.Entry.{Entry}
-use Rattle.directory.specs.declared.Match.{Match}
-use Rattle.directory.specs.declared.Part.{Part}
+use Rattle.entries.specs.declared.Entry.{Entry}
+use Rattle.entries.specs.declared.Match.{Match}
+use Rattle.entries.specs.declared.Part.{Part}
 use Rattle.flash.specs.Efs.{efsIn, pointerIn}
 use Rattle.flash.specs.declared.Efs.{Efs}
 use Rattle.flash.specs.declared.Pointer.{Pointer}

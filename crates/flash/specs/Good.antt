@@ -7,8 +7,9 @@ use lib.ListN.{length, getD}
 use Rattle.le.specs.Le.{leAt, Bytes}
 use Rattle.reply.specs.Reply.{given}
 use Rattle.reply.specs.Scan.{Lowest}
-use Rattle.directory.specs.Entry.{entryOf}
-use Rattle.directory.specs.Good.{Leads, BeginsAt, GoodDirectory}
+use Rattle.entries.specs.Entry.{entryOf}
+use Rattle.directory.specs.Good.{GoodDirectory}
+use Rattle.entries.specs.Good.{Leads, BeginsAt}
 use Rattle.directory.specs.declared.Directory.{Directory}
 use Rattle.flash.specs.Flash.{Reading, flashDirectory}
 

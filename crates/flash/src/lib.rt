@@ -5,18 +5,18 @@ ghost use lib.ListN.{length};
 ghost use Rattle.reply.specs.Reply.{refused, alone};
 ghost use Rattle.window.specs.Window.{toldOffset};
 ghost use Rattle.directory.specs.Directory.{toldDirectory};
-ghost use Rattle.directory.specs.Entry.{toldEntry, toldLookup};
-ghost use Rattle.directory.specs.Part.{toldPart, bytesOf, beginOf};
+ghost use Rattle.entries.specs.Entry.{toldEntry, toldLookup};
+ghost use Rattle.entries.specs.Part.{toldPart, bytesOf, beginOf};
 ghost use Rattle.flash.specs.Efs.{counts, candidateAt, efsOf, efsAt, efsIn, absent, inImage, pointerTo, pointerFrom, pointerOf, pointerIn, toldEfs, toldPointer};
 ghost use Rattle.flash.specs.Flash.{readingOf, base, sized, flashEfs, flashPointer, levelOne, levelTwoAt, levelTwo, levelOf, flashDirectory, flashEntry, flashPart, fromLookup, flashFind};
 use directory::Checked;
 use directory::Directory;
-use directory::Entry;
 use directory::Kind;
-use directory::Led;
-use directory::Lookup;
-use directory::Placed;
-use directory::Read;
+use entries::Entry;
+use entries::Led;
+use entries::Lookup;
+use entries::Placed;
+use entries::Read;
 use reply::Refusal;
 use window::Converted;
 use window::Offset;
@@ -212,7 +212,7 @@ fn led_to(image: &[u8], kind: Kind, limit: u32, window: u32, at: Offset, e: Entr
     requires { ⌜ length (now image) ≤ 16777216 ⌝ }
     ensures { λ r. ⌜ toldDirectory r ≡ levelTwoAt kind limit window (now (image .entry)) (at .0) e ⌝ }
 {
-    match directory::leads_to(image, window, at, e) {
+    match entries::leads_to(image, window, at, e) {
         Led::Given(place) => directory::directory_at(image, kind, limit, 2, Offset(place as u32)),
         Led::Refused(why) => Checked::Refused(why),
     }
@@ -243,7 +243,7 @@ fn level_two(image: &[u8], kind: Kind, limit: u32, window: u32, d: Directory) ->
     requires { ⌜ length (now image) ≤ 16777216 ⌝ }
     ensures { λ r. ⌜ toldDirectory r ≡ levelTwo kind limit window (now (image .entry)) d ⌝ }
 {
-    match directory::lead_in(image, kind, d) {
+    match entries::lead_in(image, kind, d) {
         Read::Given(e) => led_to(image, kind, limit, window, d.place, e),
         Read::Refused(why) => Checked::Refused(why),
     }
@@ -344,7 +344,7 @@ pub fn entry(image: &[u8], level: u32, i: usize) -> Read
     ensures { λ r. ⌜ toldEntry r ≡ flashEntry base level (now (image .entry)) i ⌝ }
 {
     match directory(image, level) {
-        Checked::Given(d) => directory::entry_in(image, directory::psp(), d, i),
+        Checked::Given(d) => entries::entry_in(image, directory::psp(), d, i),
         Checked::Refused(why) => Read::Refused(why),
     }
 }
@@ -354,7 +354,7 @@ pub fn part(image: &[u8], level: u32, i: usize) -> Placed
     ensures { λ r. ⌜ toldPart r ≡ flashPart base level (now (image .entry)) i ⌝ }
 {
     match directory(image, level) {
-        Checked::Given(d) => directory::part_in(image, directory::psp(), Physical::WINDOW, d, i),
+        Checked::Given(d) => entries::part_in(image, directory::psp(), Physical::WINDOW, d, i),
         Checked::Refused(why) => Placed::Refused(why),
     }
 }
@@ -365,7 +365,7 @@ pub fn bytes<'a>(image: &'a [u8], level: u32, i: usize) -> &'a [u8]
     ensures { λ r. ⌜ r .ptr ≡ beginOf (image .entry .ptr) (flashPart base level (now (image .entry)) i) ⌝ }
 {
     match directory(image, level) {
-        Checked::Given(d) => directory::bytes_in(image, directory::psp(), Physical::WINDOW, d, i),
+        Checked::Given(d) => entries::bytes_in(image, directory::psp(), Physical::WINDOW, d, i),
         Checked::Refused(_) => &image[0..0],
     }
 }
@@ -385,7 +385,7 @@ pub fn find(image: &[u8], level: u32, class: u8, sub: u8) -> Lookup
     ensures { λ r. ⌜ toldLookup r ≡ flashFind base level (now (image .entry)) class sub ⌝ }
 {
     match directory(image, level) {
-        Checked::Given(d) => directory::find_in(image, directory::psp(), d, class, sub),
+        Checked::Given(d) => entries::find_in(image, directory::psp(), d, class, sub),
         Checked::Refused(why) => no_lookup(why),
     }
 }

@@ -2,9 +2,10 @@
 use Prim.Native.Nat.{ℕ}
 use mathlib.Core.List.{List, [], _∷_}
 use Rattle.directory.specs.declared.Directory.{Directory}
-use Rattle.directory.specs.declared.Entry.{Entry}
-use Rattle.directory.specs.declared.Match.{Match}
-use Rattle.directory.specs.declared.Part.{Part}
+use Rattle.directory.specs.declared.Repeat.{Repeat}
+use Rattle.entries.specs.declared.Entry.{Entry}
+use Rattle.entries.specs.declared.Match.{Match}
+use Rattle.entries.specs.declared.Part.{Part}
 use Rattle.flash.specs.declared.Efs.{Efs}
 use Rattle.flash.specs.declared.Pointer.{Pointer}
 use Rattle.walk.specs.declared.Found.{Found}
@@ -20,6 +21,10 @@ layPointer p = p .field ∷ p .value ∷ p .place .0 ∷ []
 -- a directory: its place, level and total
 abbrev pub layDirectory : Directory → List ℕ
 layDirectory d = d .place .0 ∷ d .level ∷ d .total ∷ []
+
+-- two entries that repeat: the one that does, the earlier one, and their type and subprogram
+abbrev pub layRepeat : Repeat → List ℕ
+layRepeat r = r .entry ∷ r .earlier ∷ r .class ∷ r .subprogram ∷ []
 
 -- an entry: its type, subprogram, size, location and mode
 abbrev pub layEntry : Entry → List ℕ

@@ -6,12 +6,14 @@ ghost use Rattle.fletcher.specs.Fletcher.{fletcherOf};
 ghost use Rattle.lent.specs.Lent.{numberLeft, wordsLeft, layNumber};
 ghost use Rattle.flash.specs.Flash.{base, flashEfs, flashPointer, flashDirectory, flashEntry, flashPart, flashFind};
 ghost use Rattle.walk.specs.Walk.{findImage};
+ghost use Rattle.repeats.specs.Repeats.{flashRepeats};
 ghost use Rattle.version.specs.Version.{versionOf};
-ghost use Rattle.image_words.specs.Images.{layEfs, layPointer, layDirectory, layEntry, layPart, layMatch, layFound};
+ghost use Rattle.image_words.specs.Images.{layEfs, layPointer, layDirectory, layRepeat, layEntry, layPart, layMatch, layFound};
 use directory::Checked;
-use directory::Lookup;
-use directory::Placed;
-use directory::Read;
+use directory::Repeated;
+use entries::Lookup;
+use entries::Placed;
+use entries::Read;
 use flash::Located;
 use flash::Pointed;
 use version::Versioned;
@@ -59,6 +61,25 @@ pub fn directory(image: &[u8], level: u32, words: &mut [u64]) -> u64
             lent::put(words, 0, &values)
         }
         Checked::Refused(why) => why.number as u64,
+    }
+}
+
+// Four words: of a directory that is refused since an entry repeats, that entry, the earlier one, and the type and subprogram of both.
+pub fn repeated(image: &[u8], level: u32, words: &mut [u64]) -> u64
+    ensures { λ r. ⌜ r ≡ numberLeft layRepeat (flashRepeats base level (now (image .entry))) (now (words .entry)) ⌝ }
+    ensures { λ _. ⌜ now (words .exit) ≡ wordsLeft layRepeat (flashRepeats base level (now (image .entry))) (now (words .entry)) ⌝ }
+{
+    match repeats::repeated(image, level) {
+        Repeated::Given(r) => {
+            let values = [
+                r.entry as u64,
+                r.earlier as u64,
+                r.class as u64,
+                r.subprogram as u64,
+            ];
+            lent::put(words, 0, &values)
+        }
+        Repeated::Refused(why) => why.number as u64,
     }
 }
 

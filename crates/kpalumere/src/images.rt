@@ -2,8 +2,9 @@
 ghost use mathlib.Core.Path.{_≡_};
 ghost use Rattle.lent.specs.Lent.{numberLeft, wordsLeft};
 ghost use Rattle.flash.specs.Flash.{base, flashEfs, flashPointer, flashDirectory, flashEntry, flashPart, flashFind};
+ghost use Rattle.repeats.specs.Repeats.{flashRepeats};
 ghost use Rattle.walk.specs.Walk.{findImage};
-ghost use Rattle.image_words.specs.Images.{layEfs, layPointer, layDirectory, layEntry, layPart, layMatch, layFound};
+ghost use Rattle.image_words.specs.Images.{layEfs, layPointer, layDirectory, layRepeat, layEntry, layPart, layMatch, layFound};
 
 // Three words: the EFS's place, and its pointers at 0x10 and at 0x14 as they stand.
 #[no_mangle]
@@ -30,6 +31,15 @@ pub extern "C" fn kpalumere_directory(image: &[u8], level: u32, words: &mut [u64
     ensures { λ _. ⌜ now (words .exit) ≡ wordsLeft layDirectory (flashDirectory base level (now (image .entry))) (now (words .entry)) ⌝ }
 {
     image_words::directory(image, level, words)
+}
+
+// Four words: of a directory that is refused since an entry repeats, that entry, the earlier one, and the type and subprogram of both.
+#[no_mangle]
+pub extern "C" fn kpalumere_repeated(image: &[u8], level: u32, words: &mut [u64]) -> u64
+    ensures { λ r. ⌜ r ≡ numberLeft layRepeat (flashRepeats base level (now (image .entry))) (now (words .entry)) ⌝ }
+    ensures { λ _. ⌜ now (words .exit) ≡ wordsLeft layRepeat (flashRepeats base level (now (image .entry))) (now (words .entry)) ⌝ }
+{
+    image_words::repeated(image, level, words)
 }
 
 // Five words: the entry's type, subprogram, size, location and mode.

@@ -4,8 +4,9 @@ use Rattle.le.specs.Le.{leAt, leBytes, putBytes, bytesOf}
 use Rattle.fletcher.specs.Fletcher.{wordsAt, sumOf as wordSum, weightedOf, fletcherOf}
 use Rattle.window.specs.Window.{offsetIn}
 use Rattle.reply.specs.Scan.{scan}
+use Rattle.reply.specs.Some.{someBelow}
 use Rattle.directory.specs.Directory.{directoryAt, directoryByCookie}
-use Rattle.directory.specs.Part.{within, leadsTo, rangedAt, partOf}
+use Rattle.entries.specs.Part.{within, leadsTo, rangedAt, partOf}
 use Rattle.flash.specs.Efs.{candidateAt, pointerTo, pointerOf}
 use Rattle.flash.specs.Flash.{flashDirectory}
 use Rattle.place.specs.Place.{placedAt}
@@ -23,7 +24,7 @@ use Rattle.mailbox.specs.Calls.{postOf, takeOf}
 use Rattle.orders.specs.Orders.{Orders}
 
 pub orders : Orders
-unfolding leAt leBytes putBytes wordsAt wordSum weightedOf fletcherOf offsetIn scan directoryAt directoryByCookie within leadsTo rangedAt partOf candidateAt pointerTo pointerOf flashDirectory placedAt entryBytes startOf roomFor bytesOf sumOf fresh idFits registersFit structureChecks structuresChecks reservedZero foundIn ownOf partBytes bytesWith tableBytes headerChecks tableOf readOf admitOf writeOf footer headerOf lengthBefore entriesIn guidStartOf allZero guidRoomFor wordOf deliveryOf ruleOf fitPosts fitRegister timesIn inRegister allBelow consistentOf postOf takeOf
+unfolding leAt leBytes putBytes wordsAt wordSum weightedOf fletcherOf offsetIn scan someBelow directoryAt directoryByCookie within leadsTo rangedAt partOf candidateAt pointerTo pointerOf flashDirectory placedAt entryBytes startOf roomFor bytesOf sumOf fresh idFits registersFit structureChecks structuresChecks reservedZero foundIn ownOf partBytes bytesWith tableBytes headerChecks tableOf readOf admitOf writeOf footer headerOf lengthBefore entriesIn guidStartOf allZero guidRoomFor wordOf deliveryOf ruleOf fitPosts fitRegister timesIn inRegister allBelow consistentOf postOf takeOf
 orders = record {
   directory = refl;
   limit = refl;

@@ -53,6 +53,11 @@ directoryRows =
     ∷ row (directoryWith two 0 1 0 (entryWith 1 1)) 5
     ∷ row (directoryWith two 0 1 0 (entryWith 0x40 0)) 14
     ∷ row (directoryWith two 0 2 0 (entryWith 0x40 0 ++ entryWith 1 1)) 14  -- entry by entry
+    ∷ row (directoryWith two 0 2 0 (entryWith 1 0 ++ entryWith 1 1)) 5  -- 5 before 18
+    ∷ row (directoryWith two 0 2 0 (entryWith 0x40 0 ++ entryWith 0x40 0)) 14  -- 14 before 18
+    ∷ row (directoryWith two 0 2 0 (entryWith 1 0 ++ entryWith 1 0)) 18
+    ∷ row (directoryWith two 0 3 0 (entryWith 1 0 ++ (entryWith 1 0 ++ entryWith 2 1))) 18  -- entry by entry
+    ∷ row (directoryWith two 0 2 0 (entryWith 1 0 ++ entryWith 2 0)) 0
     ∷ []
 
 -- the same where the largest total is 1 and not 512
@@ -149,11 +154,13 @@ extendRows =
     ∷ row (fields 1 3 (2 ^ 62 - 1) 0, directoryWith two 0 0 0 [] ++ zeros 16) 0
     ∷ []
 
--- an entry for a level two, the buffer's length, and the total
+-- an entry for a level two, the length of a buffer of zeros, and the total
 abbrev pub roomRows : List (Row (Fields × ℕ × ℕ))
 roomRows =
     row (fields 0x40 0 0 0, 0, 512) 14  -- 14 before 3
+    ∷ row (fields 0 0 0 0, 0, 512) 18  -- 18 before 3
     ∷ row (fields 1 0 0 0, 0, 512) 3  -- 3 before 12
-    ∷ row (fields 1 0 0 0, 8207, 511) 12
-    ∷ row (fields 1 0 0 0, 8208, 511) 0
+    ∷ row (fields 1 0 0 0, 0, 511) 12
+    ∷ row (fields 1 0 0 0, 47, 1) 12
+    ∷ row (fields 1 0 0 0, 48, 1) 0
     ∷ []

@@ -6,7 +6,7 @@ use lib.ListN.{replicate}
 use Rattle.lent.specs.Lent.{numberOf}
 use Rattle.window.specs.Window.{baseWindow}
 use Rattle.directory.specs.Directory.{pspKind, directoryOf, directoryAt}
-use Rattle.directory.specs.Part.{partIn}
+use Rattle.entries.specs.Part.{partIn}
 use Rattle.flash.specs.Flash.{flashDirectory}
 use Rattle.place.specs.Place.{placedAt}
 use Rattle.build.specs.Write.{entryBytes, startOf, extendOf, roomFor}
@@ -33,7 +33,7 @@ pub record Orders : Type 0 where
   pub place : Right (λ a. numberOf (placedAt atTheStart (a .0) (a .1))) placeRows
   pub start : Right (λ a. numberOf (startOf (a .0) (a .1))) startRows
   pub extend : Right (λ a. numberOf (extendOf (a .0) (a .1))) extendRows
-  pub room : Right (λ a. numberOf (roomFor (a .0) (a .1) (directoryOf 0 2 (a .2)))) roomRows
+  pub room : Right (λ a. numberOf (roomFor (a .0) (zeros (a .1)) (directoryOf 0 2 (a .2)))) roomRows
   pub aspt-read : Right (λ s. numberOf (readOf s)) readRows
   pub aspt-write : Right (λ a. numberOf (writeOf (a .0) (replicate (a .1) 0))) writeRows
   pub guids : Right (λ s. numberOf (tableOf s)) guidRows

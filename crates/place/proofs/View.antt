@@ -11,13 +11,13 @@ use lib.Dec.{leb, eqb}
 use Rattle.reply.specs.Reply.{Reply, Carried, given, refused, alone, then}
 use Rattle.reply.proofs.ReplyLaws.{past, passed, then-given}
 use Rattle.directory.specs.Directory.{directoryAt, directoryByCookie}
-use Rattle.directory.specs.Entry.{entryIn, leadIn}
-use Rattle.directory.specs.Part.{leadsTo, rangedAt, partOf, partIn, bytesOf, beginOf}
+use Rattle.entries.specs.Entry.{entryIn, leadIn}
+use Rattle.entries.specs.Part.{leadsTo, rangedAt, partOf, partIn, bytesOf, beginOf}
 use Rattle.directory.specs.declared.Directory.{Directory}
-use Rattle.directory.specs.declared.Entry.{Entry}
-use Rattle.directory.specs.declared.Part.{Part}
+use Rattle.entries.specs.declared.Entry.{Entry}
+use Rattle.entries.specs.declared.Part.{Part}
 use Rattle.directory.proofs.Accept.{only-good, cookie-acceptance}
-use Rattle.directory.proofs.Parts.{part-inside}
+use Rattle.entries.proofs.Parts.{part-inside}
 use Rattle.flash.specs.Efs.{pointerIn}
 use Rattle.flash.specs.Good.{GoodLength}
 use Rattle.flash.specs.Flash.{Reading, base, flashDirectory, flashPart}

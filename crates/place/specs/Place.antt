@@ -5,11 +5,11 @@ use lib.ListN.{length}
 use lib.Dec.{leb}
 use Rattle.reply.specs.Reply.{Reply, given, refused, guard, then}
 use Rattle.directory.specs.Directory.{directoryByCookie}
-use Rattle.directory.specs.Entry.{entryIn}
-use Rattle.directory.specs.Part.{partIn}
+use Rattle.entries.specs.Entry.{entryIn}
+use Rattle.entries.specs.Part.{partIn}
 use Rattle.directory.specs.declared.Directory.{Directory}
-use Rattle.directory.specs.declared.Entry.{Entry}
-use Rattle.directory.specs.declared.Part.{Part}
+use Rattle.entries.specs.declared.Entry.{Entry}
+use Rattle.entries.specs.declared.Part.{Part}
 use Rattle.flash.specs.Flash.{Reading, sized, flashDirectory}
 
 -- the directory at a place, checked again without the EFS

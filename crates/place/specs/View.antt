@@ -6,10 +6,10 @@ use mathlib.Core.List.{List, []}
 use lib.ListN.{length, take, drop}
 use Rattle.reply.specs.Reply.{Carried, given, refused, alone}
 use Rattle.directory.specs.Good.{GoodDirectory}
-use Rattle.directory.specs.Part.{bytesOf, beginOf}
+use Rattle.entries.specs.Part.{bytesOf, beginOf}
 use Rattle.directory.specs.declared.Directory.{Directory}
-use Rattle.directory.specs.declared.Entry.{Entry}
-use Rattle.directory.specs.declared.Part.{Part}
+use Rattle.entries.specs.declared.Entry.{Entry}
+use Rattle.entries.specs.declared.Part.{Part}
 use Rattle.flash.specs.Good.{GoodLength}
 use Rattle.flash.specs.Flash.{Reading, base, flashDirectory, flashEntry, flashPart}
 use Rattle.place.specs.Place.{placedAt, entryAt, partAt, viewImage, viewPlace, entryThrough, partThrough}

@@ -1,13 +1,13 @@
 // A directory at a place of a lent image, checked again at each call without the EFS: its entries and their bytes; and what a view of a level holds.
 ghost use mathlib.Core.Path.{_≡_};
 ghost use Rattle.directory.specs.Directory.{toldDirectory};
-ghost use Rattle.directory.specs.Entry.{toldEntry};
-ghost use Rattle.directory.specs.Part.{toldPart, bytesOf, beginOf};
+ghost use Rattle.entries.specs.Entry.{toldEntry};
+ghost use Rattle.entries.specs.Part.{toldPart, bytesOf, beginOf};
 ghost use Rattle.flash.specs.Flash.{base};
 ghost use Rattle.place.specs.Place.{placedAt, entryAt, partAt, viewImage, viewPlace};
 use directory::Checked;
-use directory::Placed;
-use directory::Read;
+use entries::Placed;
+use entries::Read;
 use reply::Refusal;
 use window::Offset;
 use window::Physical;
@@ -33,7 +33,7 @@ pub fn entry_at(image: &[u8], place: usize, i: usize) -> Read
     ensures { λ r. ⌜ toldEntry r ≡ entryAt base (now (image .entry)) place i ⌝ }
 {
     match check_at(image, place) {
-        Checked::Given(d) => directory::entry_in(image, directory::psp(), d, i),
+        Checked::Given(d) => entries::entry_in(image, directory::psp(), d, i),
         Checked::Refused(why) => Read::Refused(why),
     }
 }
@@ -43,7 +43,7 @@ pub fn part_at(image: &[u8], place: usize, i: usize) -> Placed
     ensures { λ r. ⌜ toldPart r ≡ partAt base (now (image .entry)) place i ⌝ }
 {
     match check_at(image, place) {
-        Checked::Given(d) => directory::part_in(image, directory::psp(), Physical::WINDOW, d, i),
+        Checked::Given(d) => entries::part_in(image, directory::psp(), Physical::WINDOW, d, i),
         Checked::Refused(why) => Placed::Refused(why),
     }
 }
@@ -53,7 +53,7 @@ pub fn bytes_at<'a>(image: &'a [u8], place: usize, i: usize) -> &'a [u8]
     ensures { λ r. ⌜ (now r ≡ bytesOf (now (image .entry)) (partAt base (now (image .entry)) place i)) × (r .ptr ≡ beginOf (image .entry .ptr) (partAt base (now (image .entry)) place i)) ⌝ }
 {
     match check_at(image, place) {
-        Checked::Given(d) => directory::bytes_in(image, directory::psp(), Physical::WINDOW, d, i),
+        Checked::Given(d) => entries::bytes_in(image, directory::psp(), Physical::WINDOW, d, i),
         Checked::Refused(_) => &image[0..0],
     }
 }

@@ -17,14 +17,14 @@ use denote.Ref.{RefT, now}
 use denote.Signature.{Slot, plain}
 use denote.Slice.{sliceTy, shr-slice-lawful}
 use Rattle.directory.specs.Directory.{toldDirectory}
-use Rattle.directory.specs.Entry.{toldEntry}
-use Rattle.directory.specs.Part.{toldPart, bytesOf, beginOf}
+use Rattle.entries.specs.Entry.{toldEntry}
+use Rattle.entries.specs.Part.{toldPart, bytesOf, beginOf}
 use Rattle.directory.proofs.Checked as Checked
 use Rattle.directory.proofs.Checked.Laws as Checked′
-use Rattle.directory.proofs.Read as Read
-use Rattle.directory.proofs.Read.Laws as Read′
-use Rattle.directory.proofs.Placed as Placed
-use Rattle.directory.proofs.Placed.Laws as Placed′
+use Rattle.entries.proofs.Read as Read
+use Rattle.entries.proofs.Read.Laws as Read′
+use Rattle.entries.proofs.Placed as Placed
+use Rattle.entries.proofs.Placed.Laws as Placed′
 use Rattle.flash.specs.Flash.{base}
 use Rattle.place.specs.Place.{placedAt, entryAt, partAt, viewImage, viewPlace}
 use Rattle.view.specs.declared.View.{View}

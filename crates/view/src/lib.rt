@@ -2,13 +2,13 @@
 // Each function over a view takes it apart and calls that of crate `place` on the image and the place.
 ghost use mathlib.Core.Path.{_≡_};
 ghost use Rattle.directory.specs.Directory.{toldDirectory};
-ghost use Rattle.directory.specs.Entry.{toldEntry};
-ghost use Rattle.directory.specs.Part.{toldPart, bytesOf, beginOf};
+ghost use Rattle.entries.specs.Entry.{toldEntry};
+ghost use Rattle.entries.specs.Part.{toldPart, bytesOf, beginOf};
 ghost use Rattle.flash.specs.Flash.{base};
 ghost use Rattle.place.specs.Place.{placedAt, entryAt, partAt, viewImage, viewPlace, entryThrough, partThrough};
 use directory::Checked;
-use directory::Placed;
-use directory::Read;
+use entries::Placed;
+use entries::Read;
 
 // The lent image, and where in it the directory begins. A caller may make one of any image and any place.
 pub struct View<'a> {

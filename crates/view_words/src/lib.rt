@@ -5,8 +5,8 @@ ghost use Rattle.flash.specs.Flash.{base, flashDirectory};
 ghost use Rattle.place.specs.Place.{entryAt, partAt};
 ghost use Rattle.image_words.specs.Images.{layEntry, layPart, layPlace};
 use directory::Checked;
-use directory::Placed;
-use directory::Read;
+use entries::Placed;
+use entries::Read;
 
 // One word: the place that a view of the directory of a level keeps.
 pub fn view(image: &[u8], level: u32, words: &mut [u64]) -> u64

@@ -12,11 +12,11 @@ use Rattle.reply.specs.Scan.{scan}
 use Rattle.reply.proofs.ReplyLaws.{clash}
 use Rattle.window.specs.Window.{offsetIn}
 use Rattle.window.specs.declared.Offset.{Offset}
-use Rattle.directory.specs.Directory.{cookieOf, totalAt, entryPlace, checksumAt, reservedZero, wellPlaced, entryStep, directoryOf, entriesAt, directoryAt}
-use Rattle.directory.specs.Part.{within, leadsTo}
+use Rattle.directory.specs.Directory.{cookieOf, totalAt, entryPlace, checksumAt, reservedZero, wellPlaced, mayRepeat, entryStep, directoryOf, entriesAt, directoryAt}
+use Rattle.entries.specs.Part.{within, leadsTo}
 use Rattle.directory.specs.declared.Kind.{Kind}
 use Rattle.directory.specs.declared.Directory.{Directory}
-use Rattle.directory.specs.declared.Entry.{Entry}
+use Rattle.entries.specs.declared.Entry.{Entry}
 use Rattle.flash.specs.Flash.{levelTwoAt}
 
 -- if refused, then with a number alone
@@ -55,7 +55,7 @@ module _ (kind : Kind) (limit level : ℕ) (s : List ℕ) (o : ℕ) where
       (guard-alone (eqb (leAt 4 s (o + 4)) (checksumAt kind s o n)) _ _
       (guard-alone (eqb (leAt 4 s (o + 12)) 0) _ _
       (scan-alone (entryStep kind level s o) (λ _. given (directoryOf o level n))
-      (λ i rest h. guard-alone (reservedZero kind s (entryPlace kind o i)) _ _ (guard-alone (wellPlaced kind level s (entryPlace kind o i)) _ _ h))
+      (λ i rest h. guard-alone (reservedZero kind s (entryPlace kind o i)) _ _ (guard-alone (wellPlaced kind level s (entryPlace kind o i)) _ _ (guard-alone (mayRepeat kind s o i) _ _ h)))
       (λ i. given-alone _) n 0))))))
 
 module _ (window : ℕ) (s : List ℕ) (o : ℕ) (e : Entry) where

@@ -6,11 +6,11 @@ use Prim.Native.Nat.{ℕ, _+_}
 use native.Mathlib.Omega.{arith}
 use Rattle.reply.specs.Reply.{Reply, Carried, given, refused, alone, tested}
 use Rattle.reply.proofs.ReplyLaws.{one-by, apart}
-use Rattle.directory.specs.Entry.{entryOf, matchOf}
-use Rattle.directory.specs.Good.{Matches}
+use Rattle.entries.specs.Entry.{entryOf, matchOf}
+use Rattle.entries.specs.Good.{Matches}
 use Rattle.directory.specs.declared.Kind.{Kind}
 use Rattle.directory.specs.declared.Directory.{Directory}
-use Rattle.directory.proofs.Lowest.{match-says, match-holds}
+use Rattle.entries.proofs.Lowest.{match-says, match-holds}
 use Rattle.walk.specs.Walk.{Step, enter, test, fault, firstIn, toldFound}
 use Rattle.walk.specs.First.{tests, Quiet, matchIn, Answered, matched, faulty, ended, FirstMatch, FoundApart}
 use Rattle.walk.specs.declared.Found.{Found}

@@ -11,12 +11,13 @@ use Rattle.reply.specs.Reply.{Reply, Carried, given, refused, alone, tested}
 use Rattle.reply.specs.declared.Refusal.{Refusal}
 use Rattle.reply.proofs.ReplyLaws.{clash, then-given}
 use Rattle.directory.specs.Directory.{directoryAt}
-use Rattle.directory.specs.Entry.{entryOf, entryIn, matchOf}
-use Rattle.directory.specs.Part.{leadsTo}
+use Rattle.entries.specs.Entry.{entryOf, entryIn, matchOf}
+use Rattle.entries.specs.Part.{leadsTo}
 use Rattle.directory.specs.declared.Kind.{Kind}
 use Rattle.directory.specs.declared.Directory.{Directory}
-use Rattle.directory.specs.declared.Entry.{Entry}
-use Rattle.directory.proofs.Accept.{acceptance, all-entry}
+use Rattle.entries.specs.declared.Entry.{Entry}
+use Rattle.directory.proofs.Accept.{acceptance}
+use Rattle.entries.proofs.Accept.{all-entry}
 use Rattle.flash.specs.Flash.{levelTwoAt}
 use Rattle.walk.specs.Walk.{Step, enter, test, fault, entriesFrom, walkedBy, belowOf, walkFrom, walkOf, firstIn}
 use Rattle.walk.specs.Probe.{entered, probed, probedBy, probeOf, isPass}

@@ -3,7 +3,7 @@ use Prim.Native.Nat.{ℕ, _+_, _≤_}
 use mathlib.Core.Path.{_≡_}
 use mathlib.Core.List.{List, [], _∷_, _++_}
 use Rattle.reply.specs.Reply.{Reply, Carried, given, refused, tested, OneToOne}
-use Rattle.directory.specs.Good.{Matches}
+use Rattle.entries.specs.Good.{Matches}
 use Rattle.directory.specs.declared.Kind.{Kind}
 use Rattle.directory.specs.declared.Directory.{Directory}
 use Rattle.flash.specs.Flash.{Reading, flashDirectory}

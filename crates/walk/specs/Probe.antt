@@ -5,10 +5,10 @@ use mathlib.Core.Bool.{Bool, true, false, cond}
 use lib.ListN.{length}
 use lib.Dec.{eqb}
 use Rattle.reply.specs.Reply.{Reply, given, refused}
-use Rattle.directory.specs.Entry.{entryIn, matchOf}
+use Rattle.entries.specs.Entry.{entryIn, matchOf}
 use Rattle.directory.specs.declared.Kind.{Kind}
 use Rattle.directory.specs.declared.Directory.{Directory}
-use Rattle.directory.specs.declared.Entry.{Entry}
+use Rattle.entries.specs.declared.Entry.{Entry}
 use Rattle.flash.specs.Flash.{levelTwoAt}
 use Rattle.walk.specs.declared.Probe.{Probe}
 use Rattle.walk.specs.declared.Probe.the-variants as probe

@@ -4,10 +4,10 @@ use mathlib.Core.List.{List, [], _∷_, _++_}
 use mathlib.Core.Bool.{cond}
 use lib.Dec.{eqb}
 use Rattle.reply.specs.Reply.{Reply, Carried, given, refused, alone, tested, then}
-use Rattle.directory.specs.Entry.{entryOf, matchOf}
+use Rattle.entries.specs.Entry.{entryOf, matchOf}
 use Rattle.directory.specs.declared.Kind.{Kind}
 use Rattle.directory.specs.declared.Directory.{Directory}
-use Rattle.directory.specs.declared.Entry.{Entry}
+use Rattle.entries.specs.declared.Entry.{Entry}
 use Rattle.flash.specs.Flash.{Reading, levelTwoAt, flashDirectory, fromLookup}
 use Rattle.walk.specs.declared.Found.{Found}
 use Rattle.walk.specs.declared.Walked.{Walked}

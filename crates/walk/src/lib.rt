@@ -8,9 +8,9 @@ ghost use Rattle.walk.specs.Walk.{walkFrom, walkOf, firstIn, findImage, 
 ghost use Rattle.walk.specs.Probe.{entered, probed, probeOf, isPass, Small};
 use directory::Checked;
 use directory::Directory;
-use directory::Entry;
 use directory::Kind;
-use directory::Read;
+use entries::Entry;
+use entries::Read;
 use reply::Refusal;
 use window::Offset;
 use window::Physical;
@@ -63,7 +63,7 @@ fn tested_entry(image: &[u8], by: Search, d: Directory, depth: u32, e: Entry) ->
     requires { ⌜ (1 ≤ length (now image)) × (length (now image) ≤ 16777216) ⌝ }
     ensures { λ r. ⌜ r ≡ probed depth (by .kind) (by .limit) (by .window) (now (image .entry)) d (by .class) (by .sub) e ⌝ }
 {
-    if directory::matches(e, by.class, by.sub) {
+    if entries::matches(e, by.class, by.sub) {
         return Probe::Match;
     }
     let kind = by.kind;
@@ -81,7 +81,7 @@ fn probe_entry(image: &[u8], by: Search, d: Directory, depth: u32, i: u32) -> Pr
     requires { ⌜ (1 ≤ length (now image)) × (length (now image) ≤ 16777216) ⌝ }
     ensures { λ r. ⌜ r ≡ probeOf depth (by .kind) (by .limit) (by .window) (now (image .entry)) d (by .class) (by .sub) i ⌝ }
 {
-    match directory::entry_in(image, by.kind, d, i as usize) {
+    match entries::entry_in(image, by.kind, d, i as usize) {
         Read::Given(e) => tested_entry(image, by, d, depth, e),
         Read::Refused(why) => Probe::Refused(why),
     }
@@ -93,10 +93,10 @@ fn passes(image: &[u8], by: Search, d: Directory, depth: u32, i: u32) -> bool
     ensures { λ r. ⌜ r ≡ isPass (probeOf depth (by .kind) (by .limit) (by .window) (now (image .entry)) d (by .class) (by .sub) i) ⌝ }
 {
     let kind = by.kind;
-    if directory::entry_matches(image, kind, d.place, i, by.class, by.sub) {
+    if entries::entry_matches(image, kind, d.place, i, by.class, by.sub) {
         return false;
     }
-    if directory::class_of(image, kind, d.place, i) == kind.lead {
+    if entries::class_of(image, kind, d.place, i) == kind.lead {
         return depth == 0;
     }
     true

@@ -19,7 +19,7 @@ const fn call(name: &'static str, given: &'static [&'static str], refusals: &'st
     }
 }
 
-/// Every call, in the order of docs/ASK.md, with the numbers that document 01 has for it.
+/// Every call, in the order of docs/ASK.md, with the numbers that document 01 and request 07 have for it.
 #[rustfmt::skip]
 pub const CALLS: &[Call] = &[
     call("buffer", &["ok"], &[]),
@@ -28,16 +28,16 @@ pub const CALLS: &[Call] = &[
     call("patch", &["ok"], &[]),
     call("show", &["bytes"], &[]),
     call("digest", &["digest"], &[]),
-    call("directory", &["ok"], &[1, 2, 3, 4, 5, 7, 8, 9, 14, 15, 16]),
-    call("entry", &["ok"], &[1, 2, 3, 4, 5, 7, 8, 9, 14, 15, 16]),
-    call("bytes", &["ok"], &[1, 2, 3, 4, 5, 7, 8, 9, 14, 15, 16, 17]),
-    call("find", &["ok"], &[1, 2, 3, 4, 5, 7, 8, 9, 14, 15, 16]),
-    call("find-image", &["ok"], &[1, 2, 3, 4, 5, 7, 8, 14, 15, 16]),
-    call("view", &["ok"], &[1, 2, 3, 4, 5, 7, 8, 9, 14, 15, 16]),
-    call("view-entry", &["ok"], &[1, 2, 3, 4, 5, 7, 8, 14, 15]),
-    call("view-bytes", &["ok"], &[1, 2, 3, 4, 5, 7, 8, 14, 15, 16, 17]),
+    call("directory", &["ok"], &[1, 2, 3, 4, 5, 7, 8, 9, 14, 15, 16, 18]),
+    call("entry", &["ok"], &[1, 2, 3, 4, 5, 7, 8, 9, 14, 15, 16, 18]),
+    call("bytes", &["ok"], &[1, 2, 3, 4, 5, 7, 8, 9, 14, 15, 16, 17, 18]),
+    call("find", &["ok"], &[1, 2, 3, 4, 5, 7, 8, 9, 14, 15, 16, 18]),
+    call("find-image", &["ok"], &[1, 2, 3, 4, 5, 7, 8, 14, 15, 16, 18]),
+    call("view", &["ok"], &[1, 2, 3, 4, 5, 7, 8, 9, 14, 15, 16, 18]),
+    call("view-entry", &["ok"], &[1, 2, 3, 4, 5, 7, 8, 14, 15, 18]),
+    call("view-bytes", &["ok"], &[1, 2, 3, 4, 5, 7, 8, 14, 15, 16, 17, 18]),
     call("start", &["ok"], &[9, 12]),
-    call("extend", &["ok"], &[1, 2, 3, 4, 5, 12, 14]),
+    call("extend", &["ok"], &[1, 2, 3, 4, 5, 12, 14, 18]),
     call("aspt-read", &["ok"], &[1, 2, 3, 4, 5, 6, 7]),
     call("aspt-write", &["ok"], &[5, 6, 7, 12]),
     call("guids", &["ok"], &[1, 2, 3, 6]),

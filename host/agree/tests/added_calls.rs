@@ -1,8 +1,11 @@
-//! The calls that stand beside document 01's and have no line in the ask language (the EFS, the directory pointer and a
-//! firmware binary's version), set side by side: the library by its bindings, and the second program.
+//! The calls that stand beside document 01's and have no line in the ask language (the EFS, the directory pointer, the entries
+//! that repeat and a firmware binary's version), set side by side: the library by its bindings, and the second program.
 
+use agree::board::{entry, Board, LEVEL_TWO};
+use agree::cases;
 use agree::random::Random;
-use std::collections::BTreeSet;
+use agree::subjects::directory::{tell_apart, Directory, Entry, CLASSES, LEAD, SUBPROGRAMS};
+use std::collections::{BTreeMap, BTreeSet};
 use std::time::{SystemTime, UNIX_EPOCH};
 
 /// How many images, and how many binaries, are tried.
@@ -56,6 +59,27 @@ fn pointer_by_both(image: &[u8]) -> [Told; 2] {
     ]
 }
 
+fn repeated_by_both(image: &[u8], level: u32) -> [Told; 2] {
+    [
+        by_library(bindings::repeated(image, level), |repeat| {
+            vec![
+                repeat.index,
+                repeat.earlier,
+                repeat.class,
+                repeat.subprogram,
+            ]
+        }),
+        by_second(second::flash::repeated(image, level), |repeat| {
+            vec![
+                repeat.index,
+                repeat.earlier,
+                repeat.kind.into(),
+                repeat.subprogram.into(),
+            ]
+        }),
+    ]
+}
+
 fn version_by_both(bytes: &[u8]) -> [Told; 2] {
     [
         by_library(bindings::version(bytes), |version| vec![version]),
@@ -79,6 +103,12 @@ impl Seen {
     /// Every number that is due has come, and no other.
     fn hold(&self, due: &[u64]) {
         assert_eq!(self.0, due.iter().copied().collect());
+    }
+
+    /// Every number that is due has come; others may have.
+    fn hold_at_least(&self, due: &[u64]) {
+        let missing: Vec<&u64> = due.iter().filter(|due| !self.0.contains(due)).collect();
+        assert!(missing.is_empty(), "{missing:?} did not come");
     }
 }
 
@@ -172,4 +202,257 @@ fn both_tell_the_same_version() {
         seen.note(version_by_both(&bytes[..length]), &whence);
     }
     seen.hold(&[0, 1, 2]);
+}
+
+// ---- the entries that repeat
+
+/// 512 entries of a level, no two the same; in level one the entry at 256 leads to level two.
+fn all_different(level: u32) -> Vec<Entry> {
+    let mut entries: Vec<Entry> = (0..512u32)
+        .map(|i| entry((i % 50) as u8, (i / 50) as u8, i, 0x1000, 1))
+        .collect();
+    if level == 1 {
+        entries[256] = entry(LEAD, 0, 0, LEVEL_TWO as u64, 1);
+    }
+    entries
+}
+
+/// Full directories in both levels, where some entries of a level have the type and subprogram of another: (later, earlier).
+fn board_with_repeats(level: u32, pairs: &[(usize, usize)]) -> Board {
+    let mut board = Board::new();
+    board.one = Directory::of(1, all_different(1));
+    board.two = Directory::of(2, all_different(2));
+    repeat(&mut board, level, pairs);
+    board
+}
+
+fn directory_of(board: &mut Board, level: u32) -> &mut Directory {
+    match level {
+        1 => &mut board.one,
+        _ => &mut board.two,
+    }
+}
+
+fn repeat(board: &mut Board, level: u32, pairs: &[(usize, usize)]) {
+    let entries = &mut directory_of(board, level).entries;
+    for (later, earlier) in pairs {
+        let (class, subprogram) = entries[*earlier].pair();
+        entries[*later].class = class;
+        entries[*later].subprogram = subprogram;
+    }
+}
+
+/// Both programs answer this.
+fn both_answer(image: &[u8], level: u32, expected: Told, whence: &str) {
+    let [library, second] = repeated_by_both(image, level);
+    assert_eq!(library, expected, "library, level {level}, {whence}");
+    assert_eq!(second, expected, "second program, level {level}, {whence}");
+}
+
+fn refused(number: u64) -> Told {
+    Err((number, None))
+}
+
+#[test]
+fn both_name_the_first_entry_that_repeats_and_the_first_that_it_repeats() {
+    for level in [1, 2] {
+        for (pairs, named) in [
+            (&[(1, 0)][..], (1, 0)),
+            (&[(511, 0)], (511, 0)),
+            (&[(511, 510)], (511, 510)),
+            (&[(300, 100)], (300, 100)),
+            // Of several the first, and of three that are the same the first two.
+            (&[(4, 0), (3, 1)], (3, 1)),
+            (&[(5, 2), (9, 2)], (5, 2)),
+            (&[(511, 0), (510, 1)], (510, 1)),
+        ] {
+            let mut board = board_with_repeats(level, pairs);
+            let (later, earlier) = named;
+            let (class, subprogram) = directory_of(&mut board, level).entries[earlier].pair();
+            let expected = [
+                later as u64,
+                earlier as u64,
+                class.into(),
+                subprogram.into(),
+            ];
+            let image = board.bytes();
+            let whence = format!("repeats {pairs:?} in level {level}");
+            both_answer(&image, level, Ok(expected.to_vec()), &whence);
+            // The other level is good, or is not reached.
+            let other = if level == 1 { refused(18) } else { refused(8) };
+            both_answer(&image, 3 - level, other, &whence);
+        }
+    }
+    // In both levels.
+    let mut board = board_with_repeats(1, &[(7, 6)]);
+    repeat(&mut board, 2, &[(3, 2)]);
+    let image = board.bytes();
+    both_answer(&image, 1, Ok(vec![7, 6, 6, 0]), "repeats in both levels");
+    both_answer(&image, 2, refused(18), "repeats in both levels");
+}
+
+#[test]
+fn both_tell_the_refusal_of_the_directory_where_it_is_not_18() {
+    let nothing = board_with_repeats(1, &[]).bytes();
+    for level in [1, 2] {
+        both_answer(&nothing, level, refused(8), "nothing repeats");
+        let pairs = [(200, 100)];
+        let repeats = |change: &dyn Fn(&mut Directory)| {
+            let mut board = board_with_repeats(level, &pairs);
+            change(directory_of(&mut board, level));
+            board.bytes()
+        };
+        let named = Ok(vec![200, 100, 0, 2]);
+        for (whence, expected, image) in [
+            ("nothing else", named.clone(), repeats(&|_| ())),
+            ("checksum", refused(4), repeats(&|one| one.wrong = 1)),
+            ("total", refused(3), repeats(&|one| one.total = 513)),
+            ("cookie", refused(2), repeats(&|one| one.cookie = [0; 4])),
+            ("reserved", refused(5), repeats(&|one| one.reserved = 1)),
+            // Entry by entry, and in an entry its reserved bits before what it repeats.
+            (
+                "an earlier entry",
+                refused(5),
+                repeats(&|one| one.entries[199].reserved = 1),
+            ),
+            (
+                "the entry itself",
+                refused(5),
+                repeats(&|one| one.entries[200].reserved = 1),
+            ),
+            (
+                "a later entry",
+                named,
+                repeats(&|one| one.entries[201].reserved = 1),
+            ),
+        ] {
+            both_answer(&image, level, expected, whence);
+        }
+        // Where the total leaves the repeat out there is none.
+        let fewer = repeats(&|one| {
+            one.entries.truncate(200);
+            one.total = 200;
+        });
+        let expected = refused(8);
+        both_answer(&fewer, level, expected, "a total before the repeat");
+    }
+    let misplaced = |place: usize| {
+        let mut board = board_with_repeats(2, &[(200, 100)]);
+        board.two.entries[place].class = LEAD;
+        board.bytes()
+    };
+    both_answer(&misplaced(199), 2, refused(14), "a lead before the repeat");
+    let named = Ok(vec![200, 100, 0, 2]);
+    both_answer(&misplaced(201), 2, named, "a lead behind the repeat");
+    let image = board_with_repeats(1, &[(1, 0)]).bytes();
+    for level in [0, 3, u32::MAX] {
+        both_answer(&image, level, refused(9), "no such level");
+    }
+    for level in [1, 2] {
+        both_answer(&[], level, refused(15), "no bytes");
+        both_answer(&[0], level, refused(2), "no EFS");
+    }
+}
+
+/// A directory of few or of many entries, of which some repeat, and which may be broken besides. Level one mostly leads to level two.
+fn random_directory(random: &mut Random, level: u32) -> Directory {
+    let count = random.one_of(&[0, 1, 2, 3, 5, 8, 40, 512]);
+    let mut entries: Vec<Entry> = (0..count)
+        .map(|_| {
+            let class = match random.one_of(&CLASSES) {
+                LEAD => 0x13,
+                class => class,
+            };
+            let subprogram = random.one_of(&SUBPROGRAMS);
+            entry(class, subprogram, 0x10, 0x1000, 1)
+        })
+        .collect();
+    if level == 1 && !random.once_in(8) {
+        let place = random.below(count + 1) as usize;
+        let mode = if random.once_in(12) { 3 } else { 1 };
+        let lead = entry(LEAD, 0, 0, LEVEL_TWO as u64, mode);
+        entries.truncate(511);
+        entries.insert(place.min(entries.len()), lead);
+    }
+    // Most are told apart, and a few of these repeat one; of the others many entries repeat.
+    if !random.once_in(3) {
+        tell_apart(random, &mut entries);
+    }
+    let mut directory = Directory::of(level, entries);
+    if random.once_in(6) {
+        directory.break_one(random);
+    }
+    directory
+}
+
+#[test]
+fn both_name_the_same_entries_of_random_boards() {
+    let seed = seed_for("the entries that repeat");
+    let mut random = Random::from_seed(seed);
+    let mut seen = [Seen::default(), Seen::default()];
+    for trial in 0..TRIALS {
+        let mut board = Board::new();
+        board.one = random_directory(&mut random, 1);
+        board.two = random_directory(&mut random, 2);
+        if random.once_in(40) {
+            board.late = pointer_value(&mut random, agree::board::LENGTH);
+        }
+        let image = board.bytes();
+        for level in [1, 2] {
+            let whence = format!("seed {seed}, trial {trial}, level {level}");
+            seen[level as usize - 1].note(repeated_by_both(&image, level), &whence);
+        }
+    }
+    seen[0].hold_at_least(&[0, 2, 3, 4, 5, 7, 8]);
+    seen[1].hold_at_least(&[0, 2, 3, 4, 5, 7, 8, 14, 16, 18]);
+}
+
+/// A number of a recorded script.
+fn number_of(word: &str) -> usize {
+    let number = match word.strip_prefix("0x") {
+        Some(digits) => usize::from_str_radix(digits, 16),
+        None => word.parse(),
+    };
+    number.expect("a recorded script has numbers in these places")
+}
+
+#[test]
+fn both_name_the_same_entries_of_every_recorded_image() {
+    let mut seen = Seen::default();
+    let mut asked = 0;
+    let all = cases::all().expect("the cases can be read");
+    for case in all.iter().filter(|case| case.name.starts_with("images/")) {
+        let script = String::from_utf8(case.script.clone()).expect("a script of a board is text");
+        let mut buffers: BTreeMap<String, Vec<u8>> = BTreeMap::new();
+        for (number, line) in (1..).zip(script.lines()) {
+            let line = line.split('#').next().unwrap_or_default();
+            let words: Vec<&str> = line.split_whitespace().collect();
+            match words.as_slice() {
+                ["buffer", name, length] => {
+                    buffers.insert(name.to_string(), vec![0; number_of(length)]);
+                }
+                ["patch", name, place, digits] => {
+                    let place = number_of(place);
+                    let bytes = digits.as_bytes().chunks(2).map(|digits| {
+                        let digits = std::str::from_utf8(digits).expect("digits are text");
+                        u8::from_str_radix(digits, 16).expect("a patch has hexadecimal digits")
+                    });
+                    let bytes: Vec<u8> = bytes.collect();
+                    let buffer = buffers.get_mut(*name).expect("a buffer is made before");
+                    buffer[place..place + bytes.len()].copy_from_slice(&bytes);
+                }
+                ["directory", name, _] => {
+                    let image = &buffers[*name];
+                    for level in [1, 2] {
+                        let whence = format!("{}.ask, line {number}, level {level}", case.name);
+                        seen.note(repeated_by_both(image, level), &whence);
+                        asked += 1;
+                    }
+                }
+                _ => (),
+            }
+        }
+    }
+    assert!(asked > 100, "{asked} images were asked");
+    seen.hold_at_least(&[0, 1, 2, 3, 4, 5, 7, 8, 14, 15, 16, 18]);
 }

@@ -1,7 +1,7 @@
 //! `kpalumere build` as people use it: descriptions that are accepted, refused and wrong.
 
 use agree::board::entry;
-use agree::subjects::directory::Directory;
+use agree::subjects::directory::{Directory, Entry};
 use agree::workplace::Workplace;
 
 /// A description with what people may write, and the directory that it describes.
@@ -53,32 +53,110 @@ fn a_directory_is_written_with_its_checksum() {
     assert_eq!(place.names(), names);
 }
 
+/// Lines of so many entries whose types and subprograms all differ, and the entries.
+fn different_lines(amount: usize) -> (String, Vec<Entry>) {
+    let pairs = (0..amount).map(|k| (0x12 + (k / 256) as u8, (k % 256) as u8));
+    pairs
+        .map(|(class, subprogram)| {
+            let line = format!("{class} {subprogram} 16 0x2000 image\n");
+            (line, entry(class, subprogram, 16, 0x2000, 1))
+        })
+        .unzip()
+}
+
 #[test]
 fn a_directory_has_at_most_512_entries() {
     let place = Workplace::new("build-full");
-    let line = "0x12 0 16 0x2000 image\n";
+    let (lines, entries) = different_lines(512);
     place
         .tool_given(
             &["build", "-", "full.dir"],
-            format!("level 2\n{}", line.repeat(512)).as_bytes(),
+            format!("level 2\n{lines}").as_bytes(),
         )
         .expect(
             0,
             "\"full.dir\" holds a directory of level 2, 8208 bytes, entries: 512\n",
         );
-    let entries = vec![entry(0x12, 0, 16, 0x2000, 1); 512];
     assert_eq!(place.get("full.dir"), Directory::of(2, entries).bytes());
+    let (more, _) = different_lines(513);
     place
         .tool_given(
             &["build", "-", "fuller.dir"],
-            format!("level 2\n{}", line.repeat(513)).as_bytes(),
+            format!("level 2\n{more}").as_bytes(),
         )
         .expect(
             1,
             "standard input, line 514: refused 3: length or count outside its limits; \
              nothing is written\n",
         );
+    // That an entry repeats is told before that there are too many.
+    place
+        .tool_given(
+            &["build", "-", "fuller.dir"],
+            format!("level 2\n{lines}0x13 7 0 0 image\n").as_bytes(),
+        )
+        .expect(
+            1,
+            "standard input, line 514: refused 18: entry repeats an earlier one; line 265 has type 0x13 and subprogram \
+             0x07 already, so leave one of the two lines out, or give one another SUB; nothing is written\n",
+        );
     assert_eq!(place.names(), ["full.dir"]);
+}
+
+#[test]
+fn an_entry_that_repeats_is_told_with_both_lines() {
+    let place = Workplace::new("build-repeated");
+    place.put("kept.dir", "kept");
+    for (text, line, earlier, pair) in [
+        (
+            "level 1\nboot-loader 0 1 2 image\nboot-loader 0 1 2 image\n",
+            3,
+            2,
+            "type 0x01 and subprogram 0x00",
+        ),
+        // Comments and empty lines count as lines. Another name of the type, another size and another place make no other entry.
+        (
+            "# a board\nlevel 2\n\n8 1 0 0 0 # first\n0x09 1 0 0 0\n8 2 0 0 0\n\n smu-firmware 0x1 9 9 3\n",
+            8,
+            4,
+            "type 0x08 and subprogram 0x01",
+        ),
+        // In level one even an entry that leads to level two.
+        (
+            "level 1\nlevel-two 0 0 0 image\nlevel-two 1 0 0 image\nlevel-two 0 0 16 image\n",
+            4,
+            2,
+            "type 0x40 and subprogram 0x00",
+        ),
+        // The first of two repeats is told, with the first line that it repeats.
+        (
+            "level 1\n255 255 0 0 0\n1 2 0 0 0\n255 255 1 1 1\n1 2 0 0 0\n",
+            4,
+            2,
+            "type 0xff and subprogram 0xff",
+        ),
+        // A repeat is told before a fault of a later line.
+        (
+            "level 2\n1 0 0 0 0\n1 0 0 0 0\n64 0 0 0 0\n1 1 0 0 4\n",
+            3,
+            2,
+            "type 0x01 and subprogram 0x00",
+        ),
+    ] {
+        place.put("bad.txt", text);
+        let expected = format!(
+            "\"bad.txt\", line {line}: refused 18: entry repeats an earlier one; line {earlier} has {pair} already, so leave \
+             one of the two lines out, or give one another SUB; nothing is written\n"
+        );
+        place
+            .tool(&["build", "bad.txt", "new.dir"])
+            .expect(1, &expected);
+        place
+            .tool(&["build", "--force", "bad.txt", "kept.dir"])
+            .expect(1, &expected);
+    }
+    assert_eq!(place.get("kept.dir"), b"kept");
+    assert_eq!(place.names(), ["bad.txt", "kept.dir"]);
 }
 
 #[test]
@@ -96,6 +174,9 @@ fn what_the_library_refuses_is_told_with_its_line() {
         ("level 1\n1 0 0 0 3\n\n1 0 0 0 4\n1 0 0 0 9\n", 4, value),
         ("level 2\n1 0 0 0 0\nlevel-two 0 0 0 image\n", 3, misplaced),
         ("level 2\n64 0 0 0 4\n", 2, value),
+        // An entry that repeats is refused for its mode, or for where it stands, first.
+        ("level 1\n1 0 0 0 3\n1 0 0 0 4\n", 3, value),
+        ("level 2\n64 0 0 0 0\n64 0 0 0 0\n", 2, misplaced),
     ] {
         place.put("bad.txt", text);
         let expected = format!("\"bad.txt\", line {line}: {told}; nothing is written\n");

@@ -89,6 +89,14 @@ fn an_entry_without_bytes_makes_an_empty_file_and_one_at_the_end_all_of_it() {
 fn what_is_refused_writes_nothing() {
     let place = with_board("extract-refused");
     place.put("bad.rom", Board::with(|board| board.one.wrong = 1));
+    place.put(
+        "repeats.rom",
+        Board::with(|board| board.one.entries[4].class = 0x00),
+    );
+    place.put(
+        "two-repeats.rom",
+        Board::with(|board| board.two.entries[3].class = 0x5A),
+    );
     place.put("kept.bin", "kept");
     for (image, level, index, told) in [
         ("board.rom", "1", "2", "refused 17: the entry holds a value"),
@@ -112,6 +120,18 @@ fn what_is_refused_writes_nothing() {
             "refused 9: level, caller or command out of range",
         ),
         ("bad.rom", "1", "0", "refused 4: checksum is wrong"),
+        (
+            "repeats.rom",
+            "1",
+            "0",
+            "refused 18: entry repeats an earlier one; in level 1, entry 4 has the type 0x00 and subprogram 0x00 of entry 0",
+        ),
+        (
+            "two-repeats.rom",
+            "2",
+            "0",
+            "refused 18: entry repeats an earlier one; in level 2, entry 3 has the type 0x5a and subprogram 0x00 of entry 2",
+        ),
     ] {
         let expected = format!("{told}; nothing is written\n");
         place
@@ -122,7 +142,10 @@ fn what_is_refused_writes_nothing() {
             .expect(1, &expected);
     }
     assert_eq!(place.get("kept.bin"), b"kept");
-    board_is_kept(&place, &["bad.rom", "kept.bin"]);
+    board_is_kept(
+        &place,
+        &["bad.rom", "kept.bin", "repeats.rom", "two-repeats.rom"],
+    );
 }
 
 #[test]

@@ -184,6 +184,19 @@ fn refused_images() -> Vec<(&'static str, Vec<u8>)> {
             "refused 7: address outside the image",
             Board::with(|board| board.late = 0x0100_0000),
         ),
+        // The public key again, last, with another size and place.
+        (
+            "refused 18: entry repeats an earlier one; in level 1, entry 4 has the type 0x00 and subprogram 0x00 of entry 0",
+            Board::with(|board| board.one.entries[4] = entry(0x00, 0, 0x100, 0x1000, 1)),
+        ),
+        // In both levels: level one is met first.
+        (
+            "refused 18: entry repeats an earlier one; in level 1, entry 2 has the type 0x03 and subprogram 0x00 of entry 1",
+            Board::with(|board| {
+                board.one.entries[2] = entry(0x03, 0, 0, 0, 1);
+                board.two.entries[3] = entry(0x01, 0, 0, 0, 1);
+            }),
+        ),
     ]
 }
 
@@ -194,6 +207,10 @@ fn refused_below() -> Vec<(&'static str, Vec<u8>)> {
         (
             "refused 14: pointer to level two inside level two",
             Board::with(|board| board.two.entries[0] = entry(0x40, 9, 0, 0, 0)),
+        ),
+        (
+            "refused 18: entry repeats an earlier one; in level 2, entry 2 has the type 0x08 and subprogram 0x01 of entry 1",
+            Board::with(|board| board.two.entries[2] = entry(0x08, 1, 0, 0, 0)),
         ),
         ("refused 16: address mode 3", led_by(3 << 62)),
         (

@@ -38,6 +38,7 @@ def images_of_csv(text):
             fields["pointer"] = {part: fields["pointer_" + part] for part in ("field", "value", "place", "refused")}
             images.append(dict(fields, levels=[], asked=[]))
         elif row["row"] == "level":
+            fields["repeat"] = {part: fields["repeat_" + part] for part in ("index", "earlier", "type", "subprogram")}
             images[-1]["levels"].append(dict(fields, entries=[]))
         elif row["row"] == "entry":
             assert fields["level"] == images[-1]["levels"][-1]["level"], row
@@ -69,9 +70,20 @@ def added_lines(image):
     yield "efs", answer(image["efs"], "place={place:#x} early={early:#x} late={late:#x}")
     yield "pointer", answer(image["pointer"], "field={field:#x} value={value:#x} place={place:#x}")
     for level in image["levels"]:
+        yield f"repeated {level['level']}", repeat_answer(level)
         for entry in level["entries"]:
             if entry["refused"] is None:
                 yield f"version {entry['place']} {entry['length']}", entry["version"] or "none"
+
+
+def repeat_answer(level):
+    """Which entries of a level repeat: both are named or neither, and only of a directory that is refused with 18."""
+    repeat = level["repeat"]
+    if None not in repeat.values():
+        assert level["refused"] == 18, level
+        return "ok index={index} earlier={earlier} type={type:#x} sub={subprogram:#x}".format(**repeat)
+    assert set(repeat.values()) == {None}, level
+    return "refused 8" if level["refused"] is None else f"refused {level['refused']}"
 
 
 def ask_lines(image):

@@ -18,6 +18,8 @@ const EFS: usize = 0x2_0000;
 const LEVEL_ONE: usize = 0x2_1000;
 const LEVEL_TWO: usize = 0x2_3800;
 const LENGTH: usize = 0x2_8000;
+/// Where a second directory of level two begins, in a board that has one.
+const THIRD: usize = 0x2_7000;
 
 /// A board with an EFS that leads to level one, and the directories given.
 fn board(one: &Directory, two: &Directory) -> Vec<u8> {
@@ -63,7 +65,14 @@ fn refused() -> Vec<(&'static str, u64, Vec<u8>)> {
     reserved.reserved = 1;
     let misplaced = level_two(&[entry(0x40, 0, 0, 0, 1)]);
     let partition = Directory::of(1, vec![entry(0x40, 0, 0, LEVEL_TWO as u64, 3)]);
-    let astray = level_one(&[entry(0x40, 0, 0, LENGTH as u64 + 1, 1)]);
+    let astray = level_one(&[entry(0x40, 1, 0, LENGTH as u64 + 1, 1)]);
+    // The public key again, and the boot loader again: other sizes and places make no other entries of them.
+    let key_again = entry(0x00, 0, 0x20, 0x2_4100, 1);
+    let boot_loader_again = entry(0x01, 0, 0x80, 0x2_5200, 1);
+    let two_repeats = level_two(&[entry(0x02, 0, 0x40, 0x2_6000, 1), boot_loader_again]);
+    let to_a_third = level_one(&[entry(0x40, 1, 0, THIRD as u64, 1)]);
+    let mut third_repeats = board(&to_a_third, &level_two(&[]));
+    put(&mut third_repeats, THIRD, &two_repeats.bytes());
     vec![
         (
             "one-runs-out.rom",
@@ -94,29 +103,37 @@ fn refused() -> Vec<(&'static str, u64, Vec<u8>)> {
             16,
             board(&partition, &level_two(&[])),
         ),
+        (
+            "one-repeats.rom",
+            18,
+            board(&level_one(&[key_again]), &level_two(&[])),
+        ),
+        ("two-repeats.rom", 18, board(&level_one(&[]), &two_repeats)),
+        ("second-two-repeats.rom", 18, third_repeats),
     ]
 }
 
-/// Images that are accepted: without level two, with every field of an entry in use, with full directories, and with the
-/// longest image that there may be.
+/// Images that are accepted: without level two, with a type and subprogram that both levels have, with every field of an entry in
+/// use, with full directories, and with the longest image that there may be.
 fn accepted() -> Vec<(&'static str, Vec<u8>)> {
     let alone = Directory::of(1, vec![entry(0x01, 0, 0x10, 0x2_5000, 1)]);
     let empty = Directory::of(1, Vec::new());
     let none = Directory::of(2, Vec::new());
+    let boot_loader_of_one = level_one(&[entry(0x01, 0, 0x80, 0x2_5200, 1)]);
     let wide = level_two(&[
         entry(0xFE, 0xFD, u32::MAX, (1 << 62) - 1, 0),
         entry(0x0B, 1, 0, (1 << 62) - 1, 3),
         entry(0x12, 0, 0x40, 0xFF02_4000, 0),
         entry(0x08, 0, 0x40, 0x100, 2),
         entry(0x02, 0, LENGTH as u32, 0, 1),
-        entry(0x02, 0, 1, LENGTH as u64, 1),
-        entry(0x02, 0, 0, LENGTH as u64, 1),
+        entry(0x02, 1, 1, LENGTH as u64, 1),
+        entry(0x02, 2, 0, LENGTH as u64, 1),
     ]);
     let mut wide = board(&level_one(&[]), &wide);
     put(&mut wide, 0x2_5010, b"$PS1");
     put(&mut wide, 0x2_5060, &0xABCD_0F01u32.to_le_bytes());
     let filling: Vec<Entry> = (0..511)
-        .map(|k| entry(0x30, k as u8, 0x20, 0x2_6000, 1))
+        .map(|k| entry(0x30 + (k / 256) as u8, k as u8, 0x20, 0x2_6000, 1))
         .collect();
     let mut long = vec![0; 1 << 24];
     let full = board(&level_one(&filling[1..]), &level_two(&filling));
@@ -124,6 +141,7 @@ fn accepted() -> Vec<(&'static str, Vec<u8>)> {
     vec![
         ("good.rom", good()),
         ("one-level.rom", board(&alone, &none)),
+        ("shared.rom", board(&boot_loader_of_one, &level_two(&[]))),
         ("nothing.rom", board(&empty, &none)),
         ("wide.rom", wide),
         ("long.rom", long),
@@ -332,6 +350,64 @@ fn progress_is_told_on_a_terminal_and_wiped() {
     assert!(!one.contains("1 of 1"), "{one:?}");
 }
 
+#[test]
+fn an_image_that_repeats_an_entry_is_refused_in_every_form() {
+    let room = room("repeats");
+    write(&room, "good.rom", &good());
+    let (name, _, bytes) = refused()
+        .into_iter()
+        .find(|(name, ..)| *name == "two-repeats.rom")
+        .expect("there is such an image");
+    write(&room, name, &bytes);
+    let shown = |form: &[&str]| {
+        let run = tool(&room, &[&["register"], form, &["good.rom", name]].concat());
+        assert_eq!((run.status, text(&run.said)), (Some(1), String::new()));
+        text(&run.answers)
+    };
+    let head = "\"two-repeats.rom\": refused 18: entry repeats an earlier one (level two)\n";
+    let summary = "2 images: 1 accepted, 1 refused (1 by 18), 0 not read; \
+                   accepted without a boot loader: 0\n";
+    for form in [&[][..], &["--quiet"]] {
+        let shown = shown(form);
+        assert!(shown.contains(head) && shown.ends_with(summary), "{shown}");
+        assert!(
+            shown.contains(
+                "  level two: refused 18: entry repeats an earlier one; \
+                 entry 2 has the type 0x01 and subprogram 0x00 of entry 0\n"
+            ),
+            "{shown}"
+        );
+        // The walk comes to level two before it has found anything.
+        assert!(
+            shown.contains("boot loader:              refused 18: entry repeats an earlier one\n"),
+            "{shown}"
+        );
+    }
+    for form in [&["--json"][..], &["--json", "--quiet"]] {
+        let shown = shown(form);
+        for expected in [
+            "\"file\": \"two-repeats.rom\",\n   \"file_bytes\": null,\n   \"verdict\": \"refused\",\n   \"refused\": 18,\n",
+            "{\"level\": 2, \"place\": null, \"total\": null, \"refused\": 18, \
+             \"repeat\": {\"index\": 2, \"earlier\": 0, \"type\": 1, \"subprogram\": 0}, \"entries\": []}",
+        ] {
+            assert!(shown.contains(expected), "{expected}\n{shown}");
+        }
+    }
+    for form in [&["--csv"][..], &["--csv", "--quiet"]] {
+        let shown = shown(form);
+        for expected in [
+            "1,image,two-repeats.rom,,refused,18,,163840,",
+            "1,level,two-repeats.rom,,,18,,,,,,,,,,,2,,,,,,,,,,,,,2,0,1,0",
+            "1,asked,two-repeats.rom,,,18,",
+        ] {
+            assert!(
+                shown.lines().any(|line| line.starts_with(expected)),
+                "{expected}\n{shown}"
+            );
+        }
+    }
+}
+
 // ---- many images, and statuses
 
 #[test]
@@ -437,7 +513,7 @@ fn wrong_words_end_with_2_and_say_what_to_do() {
         &["register", "--json", "--json"],
         &["register", "--quiet=yes"],
         &["explain", "0"],
-        &["explain", "18"],
+        &["explain", "19"],
         &["explain", "four"],
         &["explain", "4", "5"],
         &["explain", "--all"],
@@ -500,6 +576,14 @@ fn added(call: &str, image: &[u8]) -> String {
             let (field, value, place) = (pointer.field, pointer.value, pointer.place);
             format!("field={field:#x} value={value:#x} place={place:#x}")
         })),
+        ["repeated", level] => {
+            let repeated = second::flash::repeated(image, level.parse().unwrap());
+            told(repeated.map(|repeat| {
+                let (index, earlier) = (repeat.index, repeat.earlier);
+                let (class, subprogram) = (repeat.kind, repeat.subprogram);
+                format!("index={index} earlier={earlier} type={class:#x} sub={subprogram:#x}")
+            }))
+        }
         ["version", place, length] => {
             let [place, length] = [place, length].map(|word| word.parse::<usize>().unwrap());
             match second::version::version(&image[place..place + length]) {
@@ -694,7 +778,7 @@ fn every_command_has_its_help() {
 fn every_refusal_is_explained() {
     let room = room("explain");
     let list = text(&tool(&room, &["explain"]).answers);
-    for number in 1..=17u64 {
+    for number in 1..=18u64 {
         let run = tool(&room, &["explain".to_string(), number.to_string()]);
         assert_eq!((run.status, text(&run.said)), (Some(0), String::new()));
         let page = text(&run.answers);

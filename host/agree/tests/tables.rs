@@ -308,6 +308,19 @@ entry null
     assert_eq!(outcome.status, Some(1));
     let read = read_by_python(&outcome);
     assert!(read.contains("\ntested null\nrefused 4\n"), "{read}");
+    let repeats = Board::with(|board| board.two.entries[3].class = 0x5A);
+    place.put("repeats.rom", repeats);
+    let outcome = place.tool(&["find", "repeats.rom", "9", "1", "--json"]);
+    assert_eq!(outcome.status, Some(1));
+    let read = read_by_python(&outcome);
+    assert!(read.contains("\ntested null\nrefused 18\n"), "{read}");
+    let outcome = place.tool(&["entry", "repeats.rom", "2", "0", "--json"]);
+    assert_eq!(outcome.status, Some(1));
+    let read = read_by_python(&outcome);
+    assert!(
+        read.ends_with("level 2\ndirectory null\ntotal null\nrefused 18\nentry null\n"),
+        "{read}"
+    );
 }
 
 #[test]

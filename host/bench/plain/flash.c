@@ -10,6 +10,8 @@ enum {
     HEADER_BYTES = 16,
     ENTRY_BYTES = 16,
     MOST_ENTRIES = 512,
+    FEW_ENTRIES = 64,
+    PAIRS = 65536, /* of a type and a subprogram */
     TYPE_LEVEL_TWO = 0x40,
     TYPE_VALUE = 0x0B
 };
@@ -46,12 +48,72 @@ static const char *cookie_of(uint32_t level)
     return level == 1 ? "$PSP" : "$PL2";
 }
 
+/* An entry by itself: its reserved bits, and whether it may stand in a directory of the level. */
+static int check_entry(const uint8_t *entry, uint32_t level)
+{
+    if (get16(entry + 2) != 0)
+        return PLAIN_FIELD;
+    if (level == 2 && entry[0] == TYPE_LEVEL_TWO)
+        return PLAIN_MISPLACED;
+    return PLAIN_OK;
+}
+
+/* Whether one of the first `count` entries has this type and subprogram. */
+static bool holds_pair(const uint8_t *entries, uint32_t count, uint16_t pair)
+{
+    for (uint32_t i = 0; i < count; i++)
+        if (get16(entries + (size_t)i * ENTRY_BYTES) == pair)
+            return true;
+    return false;
+}
+
+/* Few entries. Most have a type of their own, and only one whose type was seen is held against the earlier ones: that costs
+ * less than to clear the marks of all pairs. */
+static int check_few(const uint8_t *entries, uint32_t total, uint32_t level)
+{
+    bool type_seen[256] = {false};
+
+    for (uint32_t i = 0; i < total; i++) {
+        const uint8_t *entry = entries + (size_t)i * ENTRY_BYTES;
+        int answer = check_entry(entry, level);
+
+        if (answer != PLAIN_OK)
+            return answer;
+        if (type_seen[entry[0]] && holds_pair(entries, i, get16(entry)))
+            return PLAIN_REPEATED;
+        type_seen[entry[0]] = true;
+    }
+    return PLAIN_OK;
+}
+
+/* Any number of entries, in one pass: a bit for each type and subprogram that was seen. */
+static int check_many(const uint8_t *entries, uint32_t total, uint32_t level)
+{
+    uint64_t seen[PAIRS / 64];
+
+    memset(seen, 0, sizeof seen);
+    for (uint32_t i = 0; i < total; i++) {
+        const uint8_t *entry = entries + (size_t)i * ENTRY_BYTES;
+        int answer = check_entry(entry, level);
+        uint16_t pair = get16(entry);
+        uint64_t bit = UINT64_C(1) << pair % 64;
+
+        if (answer != PLAIN_OK)
+            return answer;
+        if (seen[pair / 64] & bit)
+            return PLAIN_REPEATED;
+        seen[pair / 64] |= bit;
+    }
+    return PLAIN_OK;
+}
+
 /* The directory of a level at a place that does not lie beyond the bytes. */
 static int check_directory(const uint8_t *bytes, size_t length, uint64_t place, uint32_t level, struct plain_directory *found)
 {
     const uint8_t *header = bytes + place;
     size_t left = length - place;
     uint32_t total;
+    int answer;
 
     if (left < HEADER_BYTES)
         return PLAIN_SHORT;
@@ -66,14 +128,12 @@ static int check_directory(const uint8_t *bytes, size_t length, uint64_t place, 
         return PLAIN_CHECKSUM;
     if (get32(header + 12) != 0)
         return PLAIN_FIELD;
-    for (uint32_t i = 0; i < total; i++) {
-        const uint8_t *entry = header + HEADER_BYTES + (size_t)i * ENTRY_BYTES;
-
-        if (get16(entry + 2) != 0)
-            return PLAIN_FIELD;
-        if (level == 2 && entry[0] == TYPE_LEVEL_TWO)
-            return PLAIN_MISPLACED;
-    }
+    if (total <= FEW_ENTRIES)
+        answer = check_few(header + HEADER_BYTES, total, level);
+    else
+        answer = check_many(header + HEADER_BYTES, total, level);
+    if (answer != PLAIN_OK)
+        return answer;
     found->place = place;
     found->level = level;
     found->total = total;
@@ -349,6 +409,8 @@ int plain_extend(uint8_t *buffer, size_t length, const struct plain_entry *entry
         return PLAIN_FIELD;
     if (level == 2 && entry->type == TYPE_LEVEL_TWO)
         return PLAIN_MISPLACED;
+    if (holds_pair(buffer + HEADER_BYTES, directory.total, (uint16_t)(entry->type | entry->subprogram << 8)))
+        return PLAIN_REPEATED;
     if (directory.total == MOST_ENTRIES)
         return PLAIN_LIMITS;
     if (length < HEADER_BYTES + (size_t)(directory.total + 1) * ENTRY_BYTES)

@@ -29,7 +29,8 @@ enum plain_answer {
     PLAIN_MISPLACED = 14,
     PLAIN_IMAGE = 15,
     PLAIN_MODE = 16,
-    PLAIN_VALUE = 17
+    PLAIN_VALUE = 17,
+    PLAIN_REPEATED = 18
 };
 
 /* ---- Little-endian numbers; the caller has checked that the bytes are there ---- */

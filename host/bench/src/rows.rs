@@ -92,8 +92,8 @@ pub const ROWS: &[Row] = &[
         name: "find-image-each",
         what: "whole-image lookup that misses, level two of 512 entered n times",
         counted: "times entered",
-        n: 512,
-        growth: POWERS,
+        n: samples::MOST_LEADS,
+        growth: &[4, 32, samples::MOST_LEADS],
         short: 8,
         work: |n| {
             let given = Rc::new(samples::entered_each(n));

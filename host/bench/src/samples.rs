@@ -44,18 +44,29 @@ pub fn sum_again(directory: &mut [u8]) {
     directory[4..8].copy_from_slice(&sum.to_le_bytes());
 }
 
-/// Entries of many types, modes and sizes, of which none leads to level two and none has the missing type.
+/// How many entries `mixed_entries` can give without a repeat: as many as a directory may have.
+pub const MOST_MIXED: usize = 512;
+
+/// Entries of many types, subprograms, modes and sizes, of which none leads to level two, none has the missing type, and no two
+/// have the same type and subprogram.
 pub fn mixed_entries(amount: usize, variant: usize) -> Vec<NewEntry> {
+    assert!(
+        amount <= MOST_MIXED,
+        "{amount} entries would repeat a type and subprogram"
+    );
     (0..amount)
         .map(|i| {
             let mode = (i % 3) as u32;
             let offset = 0x3_0000 + 0x40 * ((i + variant) % 1024) as u64;
+            // Of 64 entries in a row no two have the same type here; each 64 have other subprograms with their types. The values
+            // have subprograms of their own, from 8 on.
+            let (class, subprogram) = match i % 16 {
+                5 => (VALUE, 8 + i / 16),
+                _ => (((7 * i + variant) % 0x40) as u8, (i + i / 64) % 8),
+            };
             NewEntry {
-                class: match i % 16 {
-                    5 => VALUE,
-                    _ => ((7 * i + variant) % 0x40) as u8,
-                },
-                subprogram: (i % 8) as u8,
+                class,
+                subprogram: subprogram as u8,
                 size: (0x10 + 3 * i) as u32,
                 location: match mode {
                     0 => 0xFF00_0000 + offset,
@@ -67,11 +78,19 @@ pub fn mixed_entries(amount: usize, variant: usize) -> Vec<NewEntry> {
         .collect()
 }
 
+/// How many entries that lead one directory can have: one for each subprogram.
+pub const MOST_LEADS: usize = 256;
+
 /// An entry that leads to level two.
 pub fn lead() -> NewEntry {
+    lead_with(0)
+}
+
+/// The same with a subprogram.
+pub fn lead_with(subprogram: u8) -> NewEntry {
     NewEntry {
         class: LEAD,
-        subprogram: 0,
+        subprogram,
         size: 0,
         location: LEVEL_TWO as u64,
         mode: 1,
@@ -104,9 +123,18 @@ pub fn entered_once(amount: usize) -> Vec<u8> {
     image(SHORTEST, &one, &mixed_entries(amount, 1))
 }
 
+/// `amount` entries that lead to the same level two, each with a subprogram of its own.
+pub fn leads(amount: usize) -> Vec<NewEntry> {
+    assert!(
+        amount <= MOST_LEADS,
+        "{amount} entries that lead would repeat a subprogram"
+    );
+    (0..amount).map(|i| lead_with(i as u8)).collect()
+}
+
 /// A small image whose level one has `amount` entries, each of which leads to the same level two of 512.
 pub fn entered_each(amount: usize) -> Vec<u8> {
-    image(SHORTEST, &vec![lead(); amount], &mixed_entries(512, 1))
+    image(SHORTEST, &leads(amount), &mixed_entries(512, 1))
 }
 
 /// An image of 16 MiB as a board has one: some thirty entries in level one, some sixty in level two. Variants differ in totals,
@@ -156,4 +184,43 @@ pub fn guest(amount: usize) -> Vec<u8> {
             .expect("the image has room for each entry");
     }
     image
+}
+
+#[cfg(test)]
+mod tests {
+    use super::*;
+    use std::collections::BTreeSet;
+
+    /// How many different pairs of type and subprogram the entries have.
+    fn pairs(entries: &[NewEntry]) -> usize {
+        let pairs: BTreeSet<(u8, u8)> = entries
+            .iter()
+            .map(|entry| (entry.class, entry.subprogram))
+            .collect();
+        pairs.len()
+    }
+
+    #[test]
+    fn no_sample_repeats_a_type_and_subprogram() {
+        for variant in 0..8 {
+            let entries = mixed_entries(MOST_MIXED, variant);
+            assert_eq!(pairs(&entries), 512, "variant {variant}");
+            assert!(
+                entries
+                    .iter()
+                    .all(|entry| entry.class != LEAD && entry.class != MISSING),
+                "variant {variant}"
+            );
+        }
+        assert_eq!(pairs(&leads(MOST_LEADS)), 256);
+    }
+
+    #[test]
+    fn the_mix_has_many_types_and_subprograms_among_few_entries() {
+        let entries = mixed_entries(64, 0);
+        let types: BTreeSet<u8> = entries.iter().map(|entry| entry.class).collect();
+        let subprograms: BTreeSet<u8> = entries.iter().map(|entry| entry.subprogram).collect();
+        assert!(types.len() > 32, "{types:?}");
+        assert!(subprograms.len() >= 8, "{subprograms:?}");
+    }
 }

@@ -10,7 +10,7 @@ use crate::samples;
 use std::ffi::c_void;
 use std::ptr;
 
-/// The stack of the thread in words. It is some six times what any call takes, since nothing guards its end.
+/// The stack of the thread in words. It is many times what any call takes, since nothing guards its end.
 const LENGTH: usize = 2 << 17;
 /// What each word of it is before the call.
 const MARK: u64 = 0xA5C3_5A3C_96F0_690F;
@@ -153,15 +153,28 @@ pub fn measure() -> Result<Vec<Depth>, String> {
     Ok(all)
 }
 
-/// An image whose levels have 512 entries each, where those of level one that `leads` picks lead to level two.
+/// An image whose levels have 512 entries each, where those of level one that `leads` picks, at most 256, lead to level two.
 fn board(leads: fn(usize) -> bool) -> Vec<u8> {
     let mut one = samples::mixed_entries(512, 0);
+    let mut subprograms = 0..=u8::MAX;
     for (i, entry) in one.iter_mut().enumerate() {
         if leads(i) {
-            *entry = samples::lead();
+            let subprogram = subprograms.next();
+            *entry = samples::lead_with(subprogram.expect("at most 256 entries lead"));
         }
     }
     samples::image(samples::LONGEST, &one, &samples::mixed_entries(512, 1))
+}
+
+/// The same, where the last entry of level two repeats the one before it.
+fn board_that_repeats(leads: fn(usize) -> bool) -> Vec<u8> {
+    let mut two = samples::mixed_entries(512, 1);
+    two[511].class = two[510].class;
+    two[511].subprogram = two[510].subprogram;
+    let bytes = samples::directory_bytes(b"$PL2", &two);
+    let mut image = board(leads);
+    image[samples::LEVEL_TWO..][..bytes.len()].copy_from_slice(&bytes);
+    image
 }
 
 const LAST_LEADS: fn(usize) -> bool = |i| i == 511;
@@ -170,7 +183,8 @@ fn walks() -> Result<Vec<Depth>, String> {
     let boards: [(&'static str, fn(usize) -> bool); 3] = [
         ("a miss, the last of 512 entries leads to 512", LAST_LEADS),
         ("a miss, the first of 512 entries leads to 512", |i| i == 0),
-        ("a miss, each of 512 entries leads to 512", |_| true),
+        // No more of them can lead: each has a subprogram of its own.
+        ("a miss, 256 of 512 entries lead to 512", |i| i % 2 == 0),
     ];
     let mut depths = Vec::new();
     for (given, leads) in boards {
@@ -184,6 +198,8 @@ fn walks() -> Result<Vec<Depth>, String> {
 fn flash() -> Result<Vec<Depth>, String> {
     let (image, place) = (board(LAST_LEADS), samples::LEVEL_TWO);
     let given = "level two of 512 entries, to which the last of 512 leads";
+    let repeats = board_that_repeats(LAST_LEADS);
+    let repeated = "the same, where the last entry repeats the one before it";
     let viewed = "a directory of 512 entries";
     let summed = &image[place + 8..][..8 + 16 * 512];
     let mut binary = [0; 256];
@@ -200,6 +216,8 @@ fn flash() -> Result<Vec<Depth>, String> {
             *mut u64: words.as_mut_ptr(), usize: words.len()) = 0, "an image"),
         depth_of!(kpalumere_directory(*const u8: image.as_ptr(), usize: image.len(), u32: 2,
             *mut u64: words.as_mut_ptr(), usize: words.len()) = 0, given),
+        depth_of!(kpalumere_repeated(*const u8: repeats.as_ptr(), usize: repeats.len(), u32: 2,
+            *mut u64: words.as_mut_ptr(), usize: words.len()) = 0, repeated),
         depth_of!(kpalumere_entry(*const u8: image.as_ptr(), usize: image.len(), u32: 2, u64: 511,
             *mut u64: words.as_mut_ptr(), usize: words.len()) = 0, given),
         depth_of!(kpalumere_part(*const u8: image.as_ptr(), usize: image.len(), u32: 2, u64: 511,

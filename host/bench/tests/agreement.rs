@@ -7,7 +7,8 @@
 use agree::random::Random;
 use bench::programs::{list_by_calls, Library, MailboxCalls, Plain, Program, Second};
 use bench::samples;
-use bindings::{Answer, AsptStructure, AsptTable, Guid, NewEntry, Place, Post, Register};
+use bench::samples::LEAD;
+use bindings::{Answer, AsptStructure, AsptTable, Guid, NewEntry, Place, Post, Refusal, Register};
 use std::collections::BTreeSet;
 use std::fmt::Debug;
 
@@ -145,12 +146,49 @@ fn random_entry(trial: &mut Trial, length: usize) -> NewEntry {
     }
 }
 
-fn random_entries(trial: &mut Trial, length: usize) -> Vec<NewEntry> {
+/// The entries of a directory. Of most directories no two have the same type and subprogram, of some one repeats, of some many do.
+fn random_entries(trial: &mut Trial, length: usize, may_lead: bool) -> Vec<NewEntry> {
     let amount = match trial.below(20) {
         0 => trial.one_of(&[511, 512, 513]),
+        // Among these a program may go over from one way to find repeats to another.
+        1 | 2 => trial.below(100),
         _ => trial.below(6),
     };
-    (0..amount).map(|_| random_entry(trial, length)).collect()
+    let many_repeat = trial.once_in(8);
+    let mut seen = BTreeSet::new();
+    let mut entries = Vec::new();
+    while entries.len() < amount {
+        let mut entry = random_entry(trial, length);
+        if trial.below(100) < amount {
+            // Small numbers alone would not give so many different ones.
+            entry.class = trial.random.number() as u8;
+            entry.subprogram = trial.random.number() as u8;
+        }
+        if !may_lead {
+            entry.class &= 0x3F;
+        }
+        if seen.insert((entry.class, entry.subprogram)) || many_repeat {
+            entries.push(entry);
+        }
+    }
+    if amount > 1 && trial.once_in(8) {
+        let later = 1 + trial.below(amount - 1);
+        let earlier = trial.below(later);
+        repeat(&mut entries, earlier, later);
+    }
+    entries
+}
+
+/// Gives a later entry the type and subprogram of an earlier one.
+fn repeat(entries: &mut [NewEntry], earlier: usize, later: usize) {
+    entries[later].class = entries[earlier].class;
+    entries[later].subprogram = entries[earlier].subprogram;
+}
+
+/// Sets a reserved bit of an entry in a directory's bytes, whose checksum is made again.
+fn set_reserved(directory: &mut [u8], index: usize) {
+    directory[16 + 16 * index + 3] |= 0x80;
+    samples::sum_again(directory);
 }
 
 /// An image of which much is good, or all.
@@ -163,11 +201,12 @@ fn random_image(trial: &mut Trial) -> Vec<u8> {
     };
     let mut image = vec![0; length];
     for (place, cookie) in PLACES.iter().zip([b"$PSP", b"$PL2", b"$PL2", b"$PSP"]) {
-        let mut entries = random_entries(trial, length);
-        if cookie == b"$PL2" && !trial.once_in(2) {
-            entries.iter_mut().for_each(|entry| entry.class &= 0x3F);
-        }
+        let may_lead = cookie == b"$PSP" || trial.once_in(2);
+        let entries = random_entries(trial, length, may_lead);
         let mut bytes = samples::directory_bytes(cookie, &entries);
+        if !entries.is_empty() && trial.once_in(8) {
+            set_reserved(&mut bytes, trial.below(entries.len()));
+        }
         if trial.once_in(3) {
             let head = trial.one_of(&[16, 16, bytes.len()]);
             trial.damage(&mut bytes[..head]);
@@ -220,7 +259,173 @@ fn flash_images_are_read_the_same() {
             trial.same("find_image", three!(find_image(&image, class, subprogram)));
         }
     }
-    trial.met_exactly(&[0, 1, 2, 3, 4, 5, 7, 8, 9, 14, 15, 16, 17]);
+    trial.met_exactly(&[0, 1, 2, 3, 4, 5, 7, 8, 9, 14, 15, 16, 17, 18]);
+}
+
+/// Holds the three programs to refuse level one of an image with a number. A lookup in the image is refused with it as well.
+#[track_caller]
+fn all_refuse(image: &[u8], number: u64) {
+    let directories = three!(directory(image, 1)).map(|answer| answer.map(|found| found.total));
+    let lookups = three!(find_image(image, samples::MISSING, 0))
+        .map(|answer| answer.map(|found| found.tested));
+    for answer in directories.into_iter().chain(lookups) {
+        assert_eq!(answer, Err(Refusal::alone(number)));
+    }
+}
+
+/// An image whose level one has these bytes.
+fn image_of(level_one: &[u8]) -> Vec<u8> {
+    let mut image = samples::image(samples::SHORTEST, &[], &[]);
+    put(&mut image, samples::LEVEL_ONE, level_one);
+    image
+}
+
+/// Totals on both sides of where a program may go over from one way to find repeats to another.
+const AMOUNTS: [usize; 12] = [2, 3, 8, 31, 32, 33, 63, 64, 65, 256, 511, 512];
+
+#[test]
+fn a_repeated_entry_is_refused_in_directories_of_every_size() {
+    for amount in AMOUNTS {
+        let good = samples::mixed_entries(amount, 0);
+        for answer in three!(directory(
+            &image_of(&samples::directory_bytes(b"$PSP", &good)),
+            1
+        )) {
+            assert_eq!(answer.map(|found| found.total), Ok(amount as u64));
+        }
+        let last = amount - 1;
+        for (earlier, later) in [
+            (0, 1),
+            (0, last),
+            (last - 1, last),
+            (amount / 2 - 1, amount / 2),
+        ] {
+            let mut entries = good.clone();
+            repeat(&mut entries, earlier, later);
+            let bytes = samples::directory_bytes(b"$PSP", &entries);
+            all_refuse(&image_of(&bytes), 18);
+            // The entry that repeats counts, not the one that it repeats: 5 comes first up to there, and 18 before the 5 of a later
+            // one.
+            let near = [0, earlier, later - 1, later, later + 1, last];
+            for faulty in near.into_iter().filter(|index| *index < amount) {
+                let mut bytes = bytes.clone();
+                set_reserved(&mut bytes, faulty);
+                all_refuse(&image_of(&bytes), if faulty <= later { 5 } else { 18 });
+            }
+        }
+    }
+}
+
+#[test]
+fn a_repeat_is_of_type_and_subprogram_both() {
+    let mut entries = samples::mixed_entries(3, 0);
+    for (i, (class, subprogram)) in [(1, 2), (2, 1), (1, 1)].into_iter().enumerate() {
+        (entries[i].class, entries[i].subprogram) = (class, subprogram);
+    }
+    for amount in [3, 512] {
+        let mut all = samples::mixed_entries(amount, 0);
+        // Types that the mix does not have.
+        for (to, from) in all.iter_mut().zip(&entries) {
+            (to.class, to.subprogram) = (0x80 + from.class, from.subprogram);
+        }
+        for answer in three!(directory(
+            &image_of(&samples::directory_bytes(b"$PSP", &all)),
+            1
+        )) {
+            assert_eq!(answer.map(|found| found.total), Ok(amount as u64));
+        }
+    }
+}
+
+#[test]
+fn the_two_levels_may_share_a_type_and_subprogram() {
+    let mut one = samples::mixed_entries(8, 0);
+    one[7] = samples::lead();
+    let two = samples::mixed_entries(8, 0);
+    let image = samples::image(samples::SHORTEST, &one, &two);
+    for answer in three!(directory(&image, 2)) {
+        assert_eq!(answer.map(|found| found.total), Ok(8));
+    }
+    // The first match of the walk is that of level one.
+    for answer in three!(find_image(&image, two[3].class, two[3].subprogram)) {
+        let found = answer.expect("both levels have it");
+        assert_eq!((found.level, found.index, found.tested), (1, 3, 4));
+    }
+}
+
+#[test]
+fn misplaced_entries_are_told_before_repeated_ones() {
+    // In level two an entry that leads is misplaced where it stands, whether it repeats or not.
+    for (pairs, number) in [
+        ([LEAD, LEAD, 1, 2], 14),
+        ([1, 2, 1, LEAD], 18),
+        ([1, 2, LEAD, 1], 14),
+        ([1, 2, 3, 3], 18),
+    ] {
+        let mut two = samples::mixed_entries(4, 1);
+        for (entry, class) in two.iter_mut().zip(pairs) {
+            (entry.class, entry.subprogram) = (class, 0);
+        }
+        let image = samples::image(samples::SHORTEST, &[samples::lead()], &two);
+        for answer in three!(directory(&image, 2)) {
+            assert_eq!(answer, Err(Refusal::alone(number)), "types {pairs:?}");
+        }
+    }
+}
+
+#[test]
+fn extending_by_a_repeated_entry_is_refused_between_14_and_3() {
+    /// The numbers of the three programs for an entry, where every byte must stay if it is refused.
+    #[track_caller]
+    fn extend_gives(buffer: &[u8], entry: &NewEntry, number: u64) {
+        let mut buffers = [(); 3].map(|()| buffer.to_vec());
+        let [library, second, plain] = &mut buffers;
+        let answers = [
+            Library::extend(library, entry),
+            Second::extend(second, entry),
+            Plain::extend(plain, entry),
+        ];
+        for (answer, after) in answers.into_iter().zip(&buffers) {
+            assert_eq!(answer, Err(Refusal::alone(number)));
+            assert!(after == buffer, "a refused extension changed the buffer");
+        }
+    }
+    for amount in AMOUNTS {
+        let entries = samples::mixed_entries(amount, 0);
+        let mut buffer = samples::directory_bytes(b"$PL2", &entries);
+        let new = NewEntry {
+            class: samples::MISSING,
+            ..entries[0]
+        };
+        let lead = samples::lead();
+        // Neither has room, and 512 entries have no number left.
+        let full = if amount == 512 { 3 } else { 12 };
+        extend_gives(&buffer, &new, full);
+        for held in [entries[0], entries[amount / 2], entries[amount - 1]] {
+            // Other fields have no part in a repeat.
+            let held = NewEntry {
+                size: 1,
+                location: 2,
+                mode: 3,
+                ..held
+            };
+            extend_gives(&buffer, &held, 18);
+            extend_gives(&buffer, &NewEntry { mode: 4, ..held }, 5);
+            let location = 1 << 62;
+            extend_gives(&buffer, &NewEntry { location, ..held }, 5);
+        }
+        extend_gives(&buffer, &lead, 14);
+        buffer.extend([0xEE; 16]);
+        extend_gives(&buffer, &entries[amount / 2], 18);
+        if amount < 512 {
+            let extended = [
+                Library::extend(&mut buffer.clone(), &new),
+                Second::extend(&mut buffer.clone(), &new),
+                Plain::extend(&mut buffer.clone(), &new),
+            ];
+            assert_eq!(extended, [Ok(amount as u64 + 1); 3]);
+        }
+    }
 }
 
 #[test]
@@ -295,6 +500,8 @@ fn directories_are_written_the_same() {
             match trial.below(10) {
                 0 => entry.location = 1 << 62,
                 1 => entry.mode = 4,
+                // A directory that is full of small numbers has none of these, more often than not.
+                2..=5 => entry.subprogram = trial.random.number() as u8,
                 _ => (),
             }
             let [library, second, plain] = &mut buffers;
@@ -307,7 +514,7 @@ fn directories_are_written_the_same() {
             trial.equal("bytes after an extend", &buffers);
         }
     }
-    trial.met_exactly(&[0, 1, 2, 3, 4, 5, 9, 12, 14]);
+    trial.met_exactly(&[0, 1, 2, 3, 4, 5, 9, 12, 14, 18]);
 }
 
 // ---- the ASPT

@@ -134,6 +134,39 @@ mod tests {
     }
 
     #[test]
+    fn an_entry_that_repeats_an_earlier_one_is_refused() {
+        let mut buffer = [0xEE; 64];
+        assert_eq!(start(&mut buffer, 1), Ok(()));
+        assert_eq!(extend(&mut buffer, &M2), Ok(1));
+        let kept = buffer;
+        let elsewhere = NewEntry {
+            size: 1,
+            location: 2,
+            mode: 2,
+            ..M2
+        };
+        assert_eq!(extend(&mut buffer, &elsewhere), Err(Refusal::alone(18)));
+        // It is told before the room that is missing, and after the mode.
+        let full = &mut buffer[..32];
+        assert_eq!(extend(full, &elsewhere), Err(Refusal::alone(18)));
+        let outside = NewEntry { mode: 4, ..M2 };
+        assert_eq!(extend(full, &outside), Err(Refusal::alone(5)));
+        assert_eq!(buffer, kept);
+        let other_subprogram = NewEntry {
+            subprogram: 1,
+            ..M2
+        };
+        assert_eq!(extend(&mut buffer, &other_subprogram), Ok(2));
+        // The pair counts in its order: subprogram 1 of type 0 is another than subprogram 0 of type 1.
+        let exchanged = NewEntry {
+            class: 0,
+            subprogram: 1,
+            ..M2
+        };
+        assert_eq!(extend(&mut buffer, &exchanged), Ok(3));
+    }
+
+    #[test]
     fn without_room_for_the_word_nothing_is_written() {
         let mut buffer = [0; 32];
         assert_eq!(start(&mut buffer, 1), Ok(()));

@@ -20,6 +20,14 @@ extern "C" {
         words_len: usize,
     ) -> u64;
 
+    fn kpalumere_repeated(
+        image: *const u8,
+        image_len: usize,
+        level: u32,
+        words: *mut u64,
+        words_len: usize,
+    ) -> u64;
+
     fn kpalumere_entry(
         image: *const u8,
         image_len: usize,
@@ -85,6 +93,18 @@ pub struct Directory {
     pub place: u64,
     pub level: u64,
     pub total: u64,
+}
+
+/// Two entries of one directory with the same type and subprogram, for which it is refused.
+#[derive(Clone, Copy, Debug, PartialEq, Eq)]
+pub struct Repeat {
+    /// The index of the first entry that repeats an earlier one.
+    pub index: u64,
+    /// The index of the first entry that it repeats.
+    pub earlier: u64,
+    /// The type of both.
+    pub class: u64,
+    pub subprogram: u64,
 }
 
 /// An entry of a directory.
@@ -185,6 +205,20 @@ pub fn directory(image: &[u8], level: u32) -> Answer<Directory> {
     )
 }
 
+/// The entries for which the directory of a level is refused with 18. A good directory has none, and that is an 8.
+#[inline]
+pub fn repeated(image: &[u8], level: u32) -> Answer<Repeat> {
+    answer_of(
+        |words: &mut [u64; 4]| repeated_into(image, level, words),
+        |&[index, earlier, class, subprogram]| Repeat {
+            index,
+            earlier,
+            class,
+            subprogram,
+        },
+    )
+}
+
 /// An entry of the directory of a level.
 #[inline]
 pub fn entry(image: &[u8], level: u32, index: usize) -> Answer<Entry> {
@@ -203,7 +237,8 @@ pub fn part(image: &[u8], level: u32, index: usize) -> Answer<Part> {
     )
 }
 
-/// The first entry of a type and subprogram in the directory of a level.
+/// The entry of a type and subprogram in the directory of a level. There is at most one: a directory that repeats a type and
+/// subprogram is refused with 18.
 #[inline]
 pub fn find(image: &[u8], level: u32, class: u8, subprogram: u8) -> Answer<Match> {
     lookup_of(
@@ -245,6 +280,20 @@ fn directory_into(image: &[u8], level: u32, words: &mut [u64]) -> u64 {
     // SAFETY: lent slices, as the crate's page says.
     unsafe {
         kpalumere_directory(
+            image.as_ptr(),
+            image.len(),
+            level,
+            words.as_mut_ptr(),
+            words.len(),
+        )
+    }
+}
+
+#[inline]
+fn repeated_into(image: &[u8], level: u32, words: &mut [u64]) -> u64 {
+    // SAFETY: lent slices, as the crate's page says.
+    unsafe {
+        kpalumere_repeated(
             image.as_ptr(),
             image.len(),
             level,
@@ -319,7 +368,7 @@ fn find_image_into(image: &[u8], class: u8, subprogram: u8, words: &mut [u64]) -
 mod tests {
     use super::*;
     use crate::answer::Refusal;
-    use crate::sample::{board, EFS, LEVEL_ONE, LEVEL_TWO};
+    use crate::sample::{board, board_that_repeats, EFS, LEVEL_ONE, LEVEL_TWO};
 
     /// The sample board with other pointers in its EFS.
     fn board_with(early: u32, late: u32) -> Vec<u8> {
@@ -399,6 +448,77 @@ mod tests {
     }
 
     #[test]
+    fn a_directory_that_repeats_a_type_and_subprogram_is_refused() {
+        let no = Refusal::alone(18);
+        let image = board_that_repeats(1);
+        assert_eq!(directory(&image, 1), Err(no));
+        // Level two is reached through level one.
+        assert_eq!(directory(&image, 2), Err(no));
+        assert_eq!(entry(&image, 1, 0), Err(no));
+        assert_eq!(part(&image, 1, 0), Err(no));
+        assert_eq!(find(&image, 1, 0x12, 0x34), Err(no));
+        assert_eq!(find_image(&image, 0x12, 0x34), Err(no));
+        let image = board_that_repeats(2);
+        assert_eq!(directory(&image, 1), directory(&board(), 1));
+        assert_eq!(directory(&image, 2), Err(no));
+        // The walk meets the fault of level two only where it comes to it.
+        assert_eq!(
+            find_image(&image, 0x12, 0x34),
+            find_image(&board(), 0x12, 0x34)
+        );
+        assert_eq!(find_image(&image, 0x01, 0), Err(no));
+        // What is refused leaves the words as they were.
+        let mut words = [7; 5];
+        assert_eq!(find_image_into(&image, 0x01, 0, &mut words), 18);
+        assert_eq!(directory_into(&image, 2, &mut words), 18);
+        assert_eq!(words, [7; 5]);
+    }
+
+    #[test]
+    fn the_entries_that_repeat_are_named() {
+        let image = board_that_repeats(1);
+        let in_one = Repeat {
+            index: 3,
+            earlier: 0,
+            class: 0x12,
+            subprogram: 0x34,
+        };
+        assert_eq!(repeated(&image, 1), Ok(in_one));
+        // Level two is not reached.
+        assert_eq!(repeated(&image, 2), Err(Refusal::alone(18)));
+        let image = board_that_repeats(2);
+        let in_two = Repeat {
+            index: 2,
+            earlier: 0,
+            class: 0x01,
+            subprogram: 0,
+        };
+        assert_eq!(repeated(&image, 1), Err(Refusal::alone(8)));
+        assert_eq!(repeated(&image, 2), Ok(in_two));
+        let mut words = [7; 5];
+        assert_eq!(repeated_into(&image, 2, &mut words), 0);
+        assert_eq!(words, [2, 0, 0x01, 0, 7]);
+    }
+
+    #[test]
+    fn where_nothing_repeats_there_are_no_entries_to_name() {
+        let mut words = [7; 4];
+        for level in [1, 2] {
+            assert_eq!(repeated(&board(), level), Err(Refusal::alone(8)));
+            assert_eq!(repeated_into(&board(), level, &mut words), 8);
+        }
+        // Every other refusal is that of the directory.
+        let mut damaged = board_that_repeats(1);
+        damaged[LEVEL_ONE as usize + 4] ^= 1;
+        assert_eq!(repeated(&damaged, 1), Err(Refusal::alone(4)));
+        assert_eq!(repeated(&board_that_repeats(1), 0), Err(Refusal::alone(9)));
+        assert_eq!(repeated(&board_that_repeats(1), 3), Err(Refusal::alone(9)));
+        assert_eq!(repeated(&[], 1), Err(Refusal::alone(15)));
+        assert_eq!(repeated(&board_with(0, 0), 1), Err(Refusal::alone(8)));
+        assert_eq!(words, [7; 4]);
+    }
+
+    #[test]
     fn an_entry_has_its_five_fields() {
         let expected = Entry {
             class: 0x12,
@@ -455,6 +575,8 @@ mod tests {
         assert_eq!(efs_into(&image, &mut words[..2]), 12);
         assert_eq!(pointer_into(&image, &mut words[..2]), 12);
         assert_eq!(directory_into(&image, 1, &mut words[..2]), 12);
+        let repeats = board_that_repeats(1);
+        assert_eq!(repeated_into(&repeats, 1, &mut words[..3]), 12);
         assert_eq!(entry_into(&image, 1, 0, &mut words[..4]), 12);
         assert_eq!(part_into(&image, 1, 0, &mut words[..1]), 12);
         assert_eq!(find_into(&image, 1, 0x40, 0, &mut words[..1]), 12);

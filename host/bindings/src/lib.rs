@@ -26,8 +26,8 @@ pub use aspt::{aspt_read, aspt_write, AsptStructure, AsptTable};
 pub use build::{extend, start, NewEntry};
 pub use checksum::checksum;
 pub use flash::{
-    directory, efs, entry, find, find_image, part, pointer, Directory, Efs, Entry, ImageMatch,
-    Match, Part, Pointer,
+    directory, efs, entry, find, find_image, part, pointer, repeated, Directory, Efs, Entry,
+    ImageMatch, Match, Part, Pointer, Repeat,
 };
 pub use guids::{
     guid_entry, guid_extend, guid_find, guid_start, guids, Guid, GuidEntry, GuidMatch, GuidTable,

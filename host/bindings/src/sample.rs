@@ -25,8 +25,23 @@ pub fn directory_bytes(cookie: &[u8; 4], entries: &[Vec<u8>]) -> Vec<u8> {
     [&cookie[..], &sum.to_le_bytes()[..4], &summed].concat()
 }
 
-/// An image whose EFS leads to a level one of three entries, of which the second leads to a level two of two.
-pub fn board() -> Vec<u8> {
+/// The entries of level one, of which the second leads to level two, and those of level two. No two of a level have the same type
+/// and subprogram.
+fn entries() -> [Vec<Vec<u8>>; 2] {
+    let one = vec![
+        entry_bytes(0x12, 0x34, 0x100, 0x3000, 1),
+        entry_bytes(0x40, 0, 0, LEVEL_TWO, 1),
+        entry_bytes(0x12, 0x35, 0, 0, 3),
+    ];
+    let two = vec![
+        entry_bytes(0x01, 0, 0x40, 0x3100, 1),
+        entry_bytes(0x0B, 0, 0, 0x1234, 0),
+    ];
+    [one, two]
+}
+
+/// An image whose EFS leads to a level one of these entries, and where a level two of these begins.
+fn board_of([one, two]: [Vec<Vec<u8>>; 2]) -> Vec<u8> {
     let mut image = vec![0; EFS + 0x24];
     let mut put = |place: u64, bytes: &[u8]| {
         let place = place as usize;
@@ -34,16 +49,21 @@ pub fn board() -> Vec<u8> {
     };
     put(EFS as u64, &[0xAA, 0x55, 0xAA, 0x55]);
     put(EFS as u64 + 0x14, &(LEVEL_ONE as u32).to_le_bytes());
-    let one = [
-        entry_bytes(0x12, 0x34, 0x100, 0x3000, 1),
-        entry_bytes(0x40, 0, 0, LEVEL_TWO, 1),
-        entry_bytes(0x12, 0x35, 0, 0, 3),
-    ];
     put(LEVEL_ONE, &directory_bytes(b"$PSP", &one));
-    let two = [
-        entry_bytes(0x01, 0, 0x40, 0x3100, 1),
-        entry_bytes(0x0B, 0, 0, 0x1234, 0),
-    ];
     put(LEVEL_TWO, &directory_bytes(b"$PL2", &two));
     image
+}
+
+/// An image whose EFS leads to a level one of three entries, of which the second leads to a level two of two.
+pub fn board() -> Vec<u8> {
+    board_of(entries())
+}
+
+/// The same where a level has one entry more, with the type and subprogram of its first.
+pub fn board_that_repeats(level: u32) -> Vec<u8> {
+    let mut entries = entries();
+    let of_level = &mut entries[level as usize - 1];
+    let (class, subprogram) = (of_level[0][0], of_level[0][1]);
+    of_level.push(entry_bytes(class, subprogram, 1, 2, 1));
+    board_of(entries)
 }

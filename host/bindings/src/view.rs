@@ -108,7 +108,7 @@ fn view_part_into(image: &[u8], place: usize, index: usize, words: &mut [u64]) -
 mod tests {
     use super::*;
     use crate::answer::Refusal;
-    use crate::sample::{board, LEVEL_ONE, LEVEL_TWO};
+    use crate::sample::{board, board_that_repeats, LEVEL_ONE, LEVEL_TWO};
     use crate::{entry, part};
 
     #[test]
@@ -128,6 +128,17 @@ mod tests {
                 let seen = view_part(&image, place, index);
                 assert_eq!(seen, part(&image, level, index), "{level} {index}");
             }
+        }
+    }
+
+    #[test]
+    fn a_view_of_a_directory_that_repeats_answers_18() {
+        for (level, place) in [(1, LEVEL_ONE as usize), (2, LEVEL_TWO as usize)] {
+            let image = board_that_repeats(level);
+            let no = Refusal::alone(18);
+            assert_eq!(view(&image, level), Err(no));
+            assert_eq!(view_entry(&image, place, 0), Err(no));
+            assert_eq!(view_part(&image, place, 0), Err(no));
         }
     }
 

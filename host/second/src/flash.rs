@@ -3,6 +3,7 @@
 
 use crate::little_endian::{put, u16_at, u32_at, u64_at};
 use crate::refusal::{require, Refusal};
+use std::collections::{BTreeMap, BTreeSet};
 
 /// The longest flash image.
 const LONGEST_IMAGE: usize = 16_777_216;
@@ -100,6 +101,17 @@ pub struct Pointer {
     pub field: u64,
     pub value: u32,
     pub place: u64,
+}
+
+/// Two entries of one directory that have the same type and subprogram.
+#[derive(Clone, Copy, Debug, PartialEq, Eq)]
+pub struct Repeat {
+    /// The index of the first entry whose type and subprogram stood before.
+    pub index: u64,
+    /// The index of the entry in which they stood first.
+    pub earlier: u64,
+    pub kind: u8,
+    pub subprogram: u8,
 }
 
 /// One entry of a directory.
@@ -249,10 +261,12 @@ fn checked_directory(bytes: &[u8], o: u64, level: Level) -> Result<Directory<'_>
     require(u32_at(from_o, 4) == checksum(&from_o[8..length]), 4)?;
     // header reserved
     require(u32_at(from_o, 0x0C) == 0, 5)?;
-    // entry by entry: reserved, then a misplaced 0x40
+    // entry by entry: reserved, a misplaced 0x40, then a type and subprogram that an earlier one has
+    let mut seen = BTreeSet::new();
     for entry in from_o[HEADER..length].chunks_exact(ENTRY) {
         require(u16_at(entry, 2) == 0, 5)?;
         require(level == Level::One || entry[0] != LEADS_TO_LEVEL_TWO, 14)?;
+        require(seen.insert((entry[0], entry[1])), 18)?;
     }
     Ok(Directory {
         image: bytes,
@@ -291,7 +305,7 @@ impl<'a> Directory<'a> {
         Ok(Part { place, length })
     }
 
-    /// The lowest entry of that type and subprogram.
+    /// The entry of that type and subprogram: there is one at most.
     pub fn find(&self, kind: u8, subprogram: u8) -> Result<Found, Refusal> {
         for (index, entry) in (0..).zip(self.entries()) {
             if entry.matches(kind, subprogram) {
@@ -306,11 +320,17 @@ impl<'a> Directory<'a> {
 
     /// The level-two directory to which an entry of this directory leads, checked.
     fn follow(&self, entry: &Entry) -> Result<Directory<'a>, Refusal> {
+        let o = self.place_led_to(entry)?;
+        checked_directory(self.image, o, Level::Two)
+    }
+
+    /// Where an entry of this directory leads.
+    fn place_led_to(&self, entry: &Entry) -> Result<u64, Refusal> {
         // mode 3 (16), a physical address outside the window (7)
         let FlashOffset(o) = entry.flash_offset(self.place)?;
         // beyond the image; the entry's size has no part in it
         require(o <= self.image.len() as u64, 7)?;
-        checked_directory(self.image, o, Level::Two)
+        Ok(o)
     }
 }
 
@@ -380,20 +400,58 @@ fn level_one(image: &[u8]) -> Result<Directory<'_>, Refusal> {
     checked_directory(image, o, Level::One)
 }
 
+/// Where the directory of that level begins, which is not checked; that of level one is, on the way to level two.
+fn directory_place(image: &[u8], level: Level) -> Result<u64, Refusal> {
+    if level == Level::One {
+        return Ok(directory_pointer(image)?.place);
+    }
+    let one = level_one(image)?;
+    // the lowest entry of type 0x40 leads to level two
+    let leading = one.entries().find(|e| e.kind == LEADS_TO_LEVEL_TWO);
+    match leading {
+        Some(entry) => one.place_led_to(&entry),
+        None => Err(Refusal::of(8)),
+    }
+}
+
 /// The directory of that level.
 pub fn directory(image: &[u8], level: u32) -> Result<Directory<'_>, Refusal> {
     let level = Level::numbered(level)?;
     check_image_length(image)?;
-    let one = level_one(image)?;
-    if level == Level::One {
-        return Ok(one);
+    let o = directory_place(image, level)?;
+    checked_directory(image, o, level)
+}
+
+/// The entries for which the directory of that level is refused with 18; a good directory has none, which is 8.
+pub fn repeated(image: &[u8], level: u32) -> Result<Repeat, Refusal> {
+    let level = Level::numbered(level)?;
+    check_image_length(image)?;
+    let o = directory_place(image, level)?;
+    match checked_directory(image, o, level) {
+        Err(refusal) if refusal.number == 18 => {
+            first_repeat(&image[o as usize + HEADER..]).ok_or(refusal)
+        }
+        Err(refusal) => Err(refusal),
+        Ok(_) => Err(Refusal::of(8)),
     }
-    // the lowest entry of type 0x40 leads to level two
-    let leading = one.entries().find(|e| e.kind == LEADS_TO_LEVEL_TWO);
-    match leading {
-        Some(entry) => one.follow(&entry),
-        None => Err(Refusal::of(8)),
+}
+
+/// Of the entries that begin these bytes, the first with a type and subprogram that were seen, and where they were seen first.
+fn first_repeat(entries: &[u8]) -> Option<Repeat> {
+    let mut first_seen = BTreeMap::new();
+    for (index, entry) in (0..).zip(entries.chunks_exact(ENTRY)) {
+        let (kind, subprogram) = (entry[0], entry[1]);
+        let earlier = *first_seen.entry((kind, subprogram)).or_insert(index);
+        if earlier != index {
+            return Some(Repeat {
+                index,
+                earlier,
+                kind,
+                subprogram,
+            });
+        }
     }
+    None
 }
 
 /// Entry `index` of the directory of that level.
@@ -507,12 +565,16 @@ pub fn start(buffer: &mut [u8], level: u32) -> Result<(), Refusal> {
 pub fn extend(buffer: &mut [u8], entry: &Entry) -> Result<u32, Refusal> {
     // a good directory of either level, by its cookie
     let level = level_by_cookie(buffer, 0)?;
-    let n = checked_directory(buffer, 0, level)?.total;
+    let directory = checked_directory(buffer, 0, level)?;
+    let n = directory.total;
+    let repeats = directory.find(entry.kind, entry.subprogram).is_ok();
     // location and mode within their limits
     require(entry.location < LOCATION_END, 5)?;
     require(entry.mode <= 3, 5)?;
     // 0x40 has no place in level two
     require(level == Level::One || entry.kind != LEADS_TO_LEVEL_TWO, 14)?;
+    // no entry that is there has this type and subprogram
+    require(!repeats, 18)?;
     // one more may be counted
     require(n < MOST_ENTRIES, 3)?;
     // room

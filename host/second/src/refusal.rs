@@ -65,7 +65,7 @@ mod tests {
     fn only_an_8_carries_a_count_into_a_lookup() {
         assert_eq!(Refusal::of(8).before_lookup(), Refusal::not_found(0));
         assert_eq!(Refusal::of(8).tested, None);
-        for number in (1..=17).filter(|n| *n != 8) {
+        for number in (1..=18).filter(|n| *n != 8) {
             assert_eq!(Refusal::of(number).before_lookup(), Refusal::of(number));
         }
     }

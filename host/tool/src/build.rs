@@ -9,6 +9,7 @@ use crate::names;
 use crate::new_file;
 use crate::numbers::{number, number32, number8};
 use crate::refusals;
+use crate::repeats;
 use crate::standard_error::say;
 use crate::words::{shown, Words, FORCE};
 use bindings::{extend, start, NewEntry, Refusal};
@@ -32,8 +33,9 @@ kpalumere build SPEC FILE [--force]: a directory from a description in text, wit
 
 SPEC is a text file, or - for standard input. Its first line is `level 1` or `level 2`; each line after it is one entry:
   TYPE SUB SIZE LOCATION MODE
-TYPE is a number or one of the names below. MODE is how LOCATION counts: physical, image, directory, partition, or its
-number 0 to 3. Numbers are decimal, or 0x and hexadecimal. Words are parted by spaces or tabs; # starts a comment.
+TYPE is a number or one of the names below, and no two lines have the same TYPE and SUB. MODE is how LOCATION counts:
+physical, image, directory, partition, or its number 0 to 3. Numbers are decimal, or 0x and hexadecimal. Words are parted by
+spaces or tabs; # starts a comment.
 
 A FILE that is there already is left as it is, unless --force is given; then it is replaced in one step, so that a failure
 leaves it whole. Where a line is wrong or an entry is refused, nothing is written.
@@ -89,7 +91,7 @@ fn run(spec: &OsStr, text: &[u8], file: &OsStr, force: bool) -> Ending {
     let built = match built(&description) {
         Ok(built) => built,
         Err((line, refusal)) => {
-            let told = refusals::told(refusal);
+            let told = refused_words(&description, line, refusal);
             let text = format!("{name}, line {line}: {told}; nothing is written\n");
             return help::print(&text).and(Ending::Refused);
         }
@@ -115,6 +117,36 @@ fn built(description: &Description) -> Result<Built, (usize, Refusal)> {
         total = extend(&mut bytes, entry).map_err(|refusal| (*line, refusal))?;
     }
     Ok(Built { bytes, total })
+}
+
+/// Why a line is refused. Of an entry that repeats another the library gives the number alone; which line it repeats is in the
+/// description.
+fn refused_words(description: &Description, line: usize, refusal: Refusal) -> String {
+    let told = refusals::told(refusal);
+    match description.repeated_by(line) {
+        Some((earlier, entry)) if refusal.number == repeats::REPEATED => format!(
+            "{told}; line {earlier} has type {:#04x} and subprogram {:#04x} already, so leave one of the two lines out, or \
+             give one another SUB",
+            entry.class, entry.subprogram
+        ),
+        _ => told,
+    }
+}
+
+impl Description {
+    /// The first entry before a line that has the type and subprogram of the entry on it, and its own line.
+    fn repeated_by(&self, line: usize) -> Option<(usize, &NewEntry)> {
+        let at = self
+            .entries
+            .iter()
+            .position(|(number, _)| *number == line)?;
+        let pair = |entry: &NewEntry| (entry.class, entry.subprogram);
+        let (_, entry) = &self.entries[at];
+        let (number, earlier) = self.entries[..at]
+            .iter()
+            .find(|(_, earlier)| pair(earlier) == pair(entry))?;
+        Some((*number, earlier))
+    }
 }
 
 /// Reads a description, or tells every line of it that is wrong.

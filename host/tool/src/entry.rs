@@ -4,6 +4,7 @@ use crate::command_line::{Command, Job};
 use crate::entry_shown::EntryShown;
 use crate::json::Json;
 use crate::refusals;
+use crate::repeats;
 use crate::showing::{show, Fields};
 use crate::words::{Words, JSON};
 use bindings::{directory, Answer, Directory};
@@ -64,21 +65,21 @@ fn read(words: &[OsString]) -> Result<Job, String> {
         show(
             &words,
             |image| Ok((directory(image, wanted.level)?, wanted.shown(image)?)),
-            |_, answer| text(wanted, answer),
+            |image, answer| text(image, wanted, answer),
             |answer| fields(wanted, answer),
             |(_, shown)| shown.ending(),
         )
     }))
 }
 
-fn text(wanted: Wanted, answer: &Answer<(Directory, EntryShown)>) -> String {
+fn text(image: &[u8], wanted: Wanted, answer: &Answer<(Directory, EntryShown)>) -> String {
     let Wanted { level, index } = wanted;
     match answer {
         Ok((Directory { place, total, .. }, shown)) => format!(
             "entry {index} of the {total} of level {level}, whose directory begins at {place:#x}\n{}",
             shown.lines()
         ),
-        Err(refusal) => format!("{}\n", refusals::told(*refusal)),
+        Err(refusal) => format!("{}\n", repeats::told(image, *refusal)),
     }
 }
 

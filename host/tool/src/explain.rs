@@ -14,15 +14,18 @@ pub static COMMAND: Command = Command {
     name: "explain",
     words: "[NUMBER]",
     does: "what a refusal number means, what usually causes it, what to look at",
-    help: || HELP.to_string(),
+    help,
     read,
 };
 
 /// What `explain --help` prints.
-const HELP: &str = "\
+fn help() -> String {
+    let amount = REFUSALS.len();
+    format!(
+        "\
 kpalumere explain [NUMBER]: what a refusal number means, what usually causes it, and what to look at.
 
-Where the library does not accept an image, a table or a call, it gives one of the 17 numbers of document 01, and a command
+Where the library does not accept an image, a table or a call, it gives one of the {amount} numbers of document 01, and a command
 shows it as 'refused N'. Without NUMBER all of them are listed, a line each.
 
 Try it:
@@ -30,7 +33,9 @@ Try it:
   kpalumere explain 4
 
 Status: 0, or 2 where there is no such number.
-";
+"
+    )
+}
 
 /// How wide the lines are where the output is no terminal.
 const USUAL_COLUMNS: usize = 100;
@@ -88,7 +93,7 @@ mod tests {
     #[test]
     fn the_list_has_each_number_once() {
         let list = list();
-        assert_eq!(list.lines().count(), 18);
+        assert_eq!(list.lines().count(), 19);
         for known in &REFUSALS {
             let line = format!("{:>4}  {}", known.number, known.title);
             assert!(list.lines().any(|found| found == line), "{line}");
@@ -116,7 +121,7 @@ mod tests {
 
     #[test]
     fn numbers_that_there_are_not_are_told() {
-        for word in ["0", "18", "-1", "four", "", "99999999999999999999"] {
+        for word in ["0", "19", "-1", "four", "", "99999999999999999999"] {
             let message = match read(&[OsString::from(word)]) {
                 Ok(_) => panic!("{word} is read"),
                 Err(message) => message,

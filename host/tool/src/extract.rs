@@ -8,7 +8,7 @@ use crate::help;
 use crate::images;
 use crate::names;
 use crate::new_file;
-use crate::refusals;
+use crate::repeats;
 use crate::words::{Words, FORCE};
 use bindings::{Answer, Entry, Part};
 use std::ffi::{OsStr, OsString};
@@ -44,7 +44,7 @@ fn read(words: &[OsString]) -> Result<Job, String> {
         let (name, file) = (&words.others[0], &words.others[3]);
         images::asked(name, |image| match part(image, wanted) {
             Err(refusal) => {
-                let told = refusals::told(refusal);
+                let told = repeats::told(image, refusal);
                 help::print(&format!("{told}; nothing is written\n")).and(Ending::Refused)
             }
             Ok((entry, part)) => {

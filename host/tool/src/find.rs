@@ -5,6 +5,7 @@ use crate::entry_shown::EntryShown;
 use crate::json::Json;
 use crate::names;
 use crate::refusals;
+use crate::repeats;
 use crate::showing::{show, Fields};
 use crate::words::{CommandOption, Words, JSON};
 use bindings::{directory, find_image, view_entry, view_part, Answer, ImageMatch, Refusal};
@@ -146,7 +147,7 @@ fn text(image: &[u8], wanted: Wanted, answer: &Answer<Found>) -> String {
             tested: Some(tested),
             ..
         }) => wanted.none(image, *tested),
-        Err(refusal) => format!("{}\n", refusals::told(*refusal)),
+        Err(refusal) => format!("{}\n", repeats::told(image, *refusal)),
     }
 }
 

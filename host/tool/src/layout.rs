@@ -97,6 +97,11 @@ pub fn kept(words: &str) -> String {
     words.replace(' ', &KEPT.to_string())
 }
 
+/// A text with kept words as it stands on a line of any length.
+pub fn on_one_line(text: &str) -> String {
+    text.replace(KEPT, " ")
+}
+
 /// The lines of a text, each of at most `columns` characters where its words let it be.
 pub fn folded(text: &str, columns: usize) -> Vec<String> {
     folded_to(text, |_| columns)
@@ -109,7 +114,7 @@ fn folded_to(text: &str, columns_of: impl Fn(usize) -> usize) -> Vec<String> {
         // Kept words that no line can hold are broken all the same.
         let together = words.chars().count() <= columns_of(lines.len());
         let parts = match together {
-            true => vec![words.replace(KEPT, " ")],
+            true => vec![on_one_line(words)],
             false => words.split(KEPT).map(String::from).collect(),
         };
         for part in parts {
@@ -140,7 +145,7 @@ fn table(rows: &[(Look, Vec<String>)]) -> Vec<String> {
             let padded: Vec<String> = cells
                 .map(|(cell, width)| format!("{cell:width$}"))
                 .collect();
-            padded.join("  ").trim_end().replace(KEPT, " ")
+            on_one_line(padded.join("  ").trim_end())
         })
         .collect()
 }

@@ -24,6 +24,7 @@ mod opening;
 mod progress;
 mod refusals;
 mod register;
+mod repeats;
 mod showing;
 mod standard_error;
 mod terminal;

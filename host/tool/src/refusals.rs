@@ -14,7 +14,7 @@ pub struct Explained {
 }
 
 /// The refusals of document 01; number N stands at N - 1.
-pub static REFUSALS: [Explained; 17] = [
+pub static REFUSALS: [Explained; 18] = [
     Explained {
         number: 1,
         title: "too few bytes",
@@ -177,6 +177,20 @@ pub static REFUSALS: [Explained; 17] = [
         causes: "Asking for the bytes of the soft fuse chain.",
         look: "The location that is shown for the entry: it is the value.",
     },
+    Explained {
+        number: 18,
+        title: "entry repeats an earlier one",
+        means: "An entry has the type and subprogram of an earlier entry of the same directory, \
+             or one that is to be added has them; then nothing was written. In a PSP directory \
+             a type and subprogram may stand once; level one and level two may share them.",
+        causes: "An entry that was added where the old one was to be replaced, two directories \
+             joined into one, or a maker that writes several instances of a type, which only \
+             BIOS directories may have.",
+        look: "The two entries that `kpalumere register IMAGE` names. The first entry begins at \
+             offset 16 of the directory, each has 16 bytes, and the first two of these are its \
+             type and its subprogram. Leave one of the two entries out, or give it another \
+             subprogram, and build the directory again.",
+    },
 ];
 
 /// The words for a number, where document 01 has it.
@@ -204,14 +218,14 @@ mod tests {
     #[test]
     fn every_number_of_document_01_has_its_words() {
         let numbers: Vec<u64> = REFUSALS.iter().map(|known| known.number).collect();
-        assert_eq!(numbers, (1..=17).collect::<Vec<u64>>());
+        assert_eq!(numbers, (1..=18).collect::<Vec<u64>>());
         for known in &REFUSALS {
             assert!(known.title.len() <= 50, "{}", known.number);
             for text in [known.means, known.causes, known.look] {
                 assert!(text.ends_with('.'), "{}: {text}", known.number);
             }
         }
-        assert!(explained(0).is_none() && explained(18).is_none());
+        assert!(explained(0).is_none() && explained(19).is_none());
     }
 
     #[test]

@@ -1,6 +1,5 @@
 use mathlib.Core.Path.{ap, _∙_}
 use borrow.Author.Needs.{needs}
-use lib.ListN.{length}
 use denote.Ref.{now}
 use Rattle.reply.proofs.ReplyLaws.{then-told}
 use Rattle.directory.specs.Directory.{directoryByCookie, toldDirectory}
@@ -29,7 +28,7 @@ returns c =
     let a = c .before .before .before .before .before .before .before .args in
     let s = now (a .buf) in
     let psp = c .before .before .before .before .before .psp in
-    c .room-for .ensures ∙ then-told toldDirectory (roomFor (a .f) (length s)) (c .before .before .d .given .1)
+    c .room-for .ensures ∙ then-told toldDirectory (roomFor (a .f) s) (c .before .before .d .given .1)
     (c .before .before .before .before .directory-by-cookie .ensures ∙ ap (λ (k : Kind). directoryByCookie k 512 s 0) (psp .ensures))
 
 returns-2 : tie.Need-returns-2
@@ -37,7 +36,7 @@ returns-2 c =
     let a = c .before .before .before .before .before .before .args in
     let s = now (a .buf) in
     let psp = c .before .before .before .before .psp in
-    then-told toldDirectory (roomFor (a .f) (length s)) (c .before .why .given .1)
+    then-told toldDirectory (roomFor (a .f) s) (c .before .why .given .1)
     (c .before .before .before .directory-by-cookie .ensures ∙ ap (λ (k : Kind). directoryByCookie k 512 s 0) (psp .ensures))
 
 pub admit-spec : {M : Type 1} → statement M

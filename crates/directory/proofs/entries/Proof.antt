@@ -1,80 +1,94 @@
-use mathlib.Core.Path.{_≡_, sym, _∙_}
-use Prim.Native.Nat.{_-_, _≤_}
+use mathlib.Core.Path.{_≡_, sym, ap, subst, _∙_}
+use mathlib.Core.Bool.{Bool}
+use Prim.Native.Nat.{ℕ}
 use native.Mathlib.Omega.{arith}
 use borrow.Author.Needs.{needs}
 use denote.Ref.{now}
-use Rattle.reply.specs.Reply.{given, refused, alone}
-use Rattle.reply.specs.Scan.{scan}
-use Rattle.reply.proofs.ReplyLaws.{passed, failed}
-use Rattle.reply.proofs.ScanLaws.{scan-start, scan-end, scan-stop, scan-pass}
-use Rattle.directory.specs.Directory.{entryStep, entriesAt, directoryOf}
+use lib.ListN.{length}
+use Rattle.le.specs.Le.{Bytes}
+use Rattle.reply.specs.Some.{someBelow, firstBelow}
+use Rattle.reply.proofs.SomeLaws.{Found, first-found}
+use Rattle.directory.specs.Looks.{faultyAt, badAt}
+use Rattle.directory.proofs.Steps.{fewer-inside, ends-any, ends-first, ends-good, ends-repeated}
 use Rattle.directory.proofs.entries.Statement.{statement}
 use Rattle.directory.proofs.entries.Tie as tie
 
-abbrev Inv-loop : tie.InvT-loop
-Inv-loop image kind level at n i₀ i = (i ≤ n) × (scan (entryStep kind level image (at .0)) (λ _. given (directoryOf (at .0) level n)) (n - i) i ≡ entriesAt kind level image (at .0) n)
+first-fault-requires : tie.Need-first-fault-requires
+first-fault-requires c κs = search needs
 
-abbrev μ-loop : tie.MeasureT-loop
-μ-loop image kind level at n i₀ i = n - i
+ended-requires : tie.Need-ended-requires
+ended-requires c κs = search needs
 
-loop-holds : tie.Need-loop-holds Inv-loop μ-loop
-loop-holds c =
-    let a = c .before .args in
-    (omega arith, scan-start (entryStep (a .kind) (a .level) (now (a .image)) (a .at .0)) (λ _. given (directoryOf (a .at .0) (a .level) (a .n))) (a .n))
-
-reserved-zero-requires : tie.Need-reserved-zero-requires Inv-loop μ-loop
-reserved-zero-requires c κs = search needs
-
-well-placed-requires : tie.Need-well-placed-requires Inv-loop μ-loop
-well-placed-requires c κs = search needs
-
-add-i : tie.Need-add-i Inv-loop μ-loop
-add-i c = search needs
-
-loop-less : tie.Need-loop-less Inv-loop μ-loop
-loop-less c = search needs
-
-loop-again : tie.Need-loop-again Inv-loop μ-loop
-loop-again c =
-    let l = c .before .before .before .before .before in
-    let a = l .before .before .args in
-    let zero = sym (c .before .before .before .reserved-zero .ensures) ∙ c .before .before .if1 .taken in
-    let placed = sym (c .before .well-placed .ensures) ∙ c .if2 .taken in
-    (omega arith, sym (scan-pass (entryStep (a .kind) (a .level) (now (a .image)) (a .at .0)) (λ _. given (directoryOf (a .at .0) (a .level) (a .n))) (a .n) (l .loop .i) (omega arith) (λ rest. passed _ _ _ _ zero ∙ passed _ _ _ _ placed)) ∙ l .loop .inv .1)
-
-returns : tie.Need-returns Inv-loop μ-loop
+returns : tie.Need-returns
 returns c =
-    let l = c .before .before .before .before .before in
-    let a = l .before .before .args in
-    let zero = sym (c .before .before .before .reserved-zero .ensures) ∙ c .before .before .if1 .taken in
-    let misplaced = sym (c .before .well-placed .ensures) ∙ c .if2 .left in
-    sym (scan-stop (entryStep (a .kind) (a .level) (now (a .image)) (a .at .0)) (λ _. given (directoryOf (a .at .0) (a .level) (a .n))) (a .n) (l .loop .i) (refused 14 alone) (omega arith) (λ rest. passed _ _ _ _ zero ∙ failed _ _ _ _ misplaced)) ∙ l .loop .inv .1
+    let f = c .before .before .before in
+    let a = f .before .args in
+    let s = now (a .image) in
+    let bytes : Bytes s = λ j. f .shared-slice-known .given j .fits in
+    let end = subst (Found (faultyAt (a .kind) (a .level) s (a .at .0)) (a .n)) (sym (c .before .first-fault .ensures)) (first-found (faultyAt (a .kind) (a .level) s (a .at .0)) (a .n)) in
+    c .ended .ensures ∙ ends-any (a .kind) (a .level) s (a .at .0) (a .n) bytes (c .before .first-fault .result) end (c .before .before .if1 .taken)
 
-returns-2 : tie.Need-returns-2 Inv-loop μ-loop
+some-bad-requires : tie.Need-some-bad-requires
+some-bad-requires c κs = search needs
+
+first-fault-requires-2 : tie.Need-first-fault-requires-2
+first-fault-requires-2 c κs = search needs
+
+some-bad-requires-2 : tie.Need-some-bad-requires-2
+some-bad-requires-2 c κs =
+    let f = c .before .before .before .before in
+    let a = f .before .args in
+    let s = now (a .image) in
+    let end = subst (Found (faultyAt (a .kind) (a .level) s (a .at .0)) (a .n)) (sym (c .first-fault2 .ensures)) (first-found (faultyAt (a .kind) (a .level) s (a .at .0)) (a .n)) in
+    fewer-inside (a .kind) (a .at .0) (a .n) (c .first-fault2 .result) (length s) (f .before .pre) (end .within)
+
+returns-2 : tie.Need-returns-2
 returns-2 c =
-    let l = c .before .before .before in
-    let a = l .before .before .args in
-    let set = sym (c .before .reserved-zero .ensures) ∙ c .if1 .left in
-    sym (scan-stop (entryStep (a .kind) (a .level) (now (a .image)) (a .at .0)) (λ _. given (directoryOf (a .at .0) (a .level) (a .n))) (a .n) (l .loop .i) (refused 5 alone) (omega arith) (λ rest. failed _ _ _ _ set)) ∙ l .loop .inv .1
+    let g = c .before .before in
+    let f = g .before .before .before .before in
+    let a = f .before .args in
+    let s = now (a .image) in
+    let bytes : Bytes s = λ j. f .shared-slice-known .given j .fits in
+    let end = subst (Found (faultyAt (a .kind) (a .level) s (a .at .0)) (a .n)) (sym (g .first-fault2 .ensures)) (first-found (faultyAt (a .kind) (a .level) s (a .at .0)) (a .n)) in
+    ends-repeated (a .kind) (a .level) s (a .at .0) (a .n) bytes (g .first-fault2 .result) (end .within) (end .before) (g .before .before .before .if1 .left) (sym (c .before .some-bad2 .ensures) ∙ c .if3 .taken)
 
-returns-3 : tie.Need-returns-3 Inv-loop μ-loop
+ended-requires-2 : tie.Need-ended-requires-2
+ended-requires-2 c κs = search needs
+
+returns-3 : tie.Need-returns-3
 returns-3 c =
-    let l = c .before in
-    let a = l .before .before .args in
-    sym (scan-end (entryStep (a .kind) (a .level) (now (a .image)) (a .at .0)) (λ _. given (directoryOf (a .at .0) (a .level) (a .n))) (a .n) (l .loop .i) (omega arith)) ∙ l .loop .inv .1
+    let g = c .before .before .before in
+    let f = g .before .before .before .before in
+    let a = f .before .args in
+    let s = now (a .image) in
+    let bytes : Bytes s = λ j. f .shared-slice-known .given j .fits in
+    let end = subst (Found (faultyAt (a .kind) (a .level) s (a .at .0)) (a .n)) (sym (g .first-fault2 .ensures)) (first-found (faultyAt (a .kind) (a .level) s (a .at .0)) (a .n)) in
+    c .ended2 .ensures ∙ ends-first (a .kind) (a .level) s (a .at .0) (a .n) bytes (g .first-fault2 .result) end (sym (c .before .before .some-bad2 .ensures) ∙ c .before .if3 .left)
+
+ended-requires-3 : tie.Need-ended-requires-3
+ended-requires-3 c κs = search needs
+
+returns-4 : tie.Need-returns-4
+returns-4 c =
+    let d = c .before .before in
+    let f = d .before .before in
+    let a = f .before .args in
+    let s = now (a .image) in
+    let bytes : Bytes s = λ j. f .shared-slice-known .given j .fits in
+    c .ended3 .ensures ∙ ends-good (a .kind) (a .level) s (a .at .0) (a .n) bytes (sym (d .some-bad .ensures) ∙ c .before .if2 .left)
 
 pub entries-spec : {M : Type 1} → statement M
 entries-spec =
     tie.close
     (tie.spec
-    Inv-loop
-    μ-loop
-    loop-holds
-    reserved-zero-requires
-    well-placed-requires
-    add-i
-    loop-less
-    loop-again
+    first-fault-requires
+    ended-requires
     returns
+    some-bad-requires
+    first-fault-requires-2
+    some-bad-requires-2
     returns-2
-    returns-3)
+    ended-requires-2
+    returns-3
+    ended-requires-3
+    returns-4)

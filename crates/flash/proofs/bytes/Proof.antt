@@ -6,7 +6,7 @@ use Rattle.reply.specs.Reply.{Reply, refused, alone}
 use Rattle.reply.proofs.ReplyLaws.{then-told}
 use Rattle.window.specs.Window.{baseWindow}
 use Rattle.directory.specs.Directory.{pspKind, toldDirectory}
-use Rattle.directory.specs.Part.{partIn, bytesOf, beginOf}
+use Rattle.entries.specs.Part.{partIn, bytesOf, beginOf}
 use Rattle.directory.specs.declared.Kind.{Kind}
 use borrow.Author.Needs.{needs}
 use Rattle.flash.proofs.bytes.Statement.{statement}

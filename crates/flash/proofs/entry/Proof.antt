@@ -2,7 +2,7 @@ use mathlib.Core.Path.{_≡_, ap, _∙_}
 use denote.Ref.{now}
 use Rattle.reply.proofs.ReplyLaws.{then-told}
 use Rattle.directory.specs.Directory.{pspKind, toldDirectory}
-use Rattle.directory.specs.Entry.{entryIn}
+use Rattle.entries.specs.Entry.{entryIn}
 use Rattle.directory.specs.declared.Kind.{Kind}
 use borrow.Author.Needs.{needs}
 use Rattle.flash.proofs.entry.Statement.{statement}

@@ -2,7 +2,7 @@ use mathlib.Core.Path.{_≡_, sym, ap, _∙_}
 use denote.Ref.{now}
 use Rattle.reply.specs.Reply.{Reply, then}
 use Rattle.directory.specs.Directory.{pspKind, toldDirectory}
-use Rattle.directory.specs.Entry.{findIn}
+use Rattle.entries.specs.Entry.{findIn}
 use Rattle.directory.specs.declared.Kind.{Kind}
 use Rattle.directory.specs.declared.Directory.{Directory}
 use Rattle.flash.specs.Flash.{fromLookup}

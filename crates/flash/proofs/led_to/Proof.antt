@@ -3,8 +3,8 @@ use native.Mathlib.Omega.{arith}
 use denote.Ref.{now}
 use Rattle.reply.proofs.ReplyLaws.{then-told}
 use Rattle.directory.specs.Directory.{directoryAt}
-use Rattle.directory.specs.Part.{toldPlace}
-use Rattle.directory.proofs.Parts.{lead-within}
+use Rattle.entries.specs.Part.{toldPlace}
+use Rattle.entries.proofs.Parts.{lead-within}
 use borrow.Author.Needs.{needs}
 use Rattle.flash.proofs.led_to.Statement.{statement}
 use Rattle.flash.proofs.led_to.Tie as tie

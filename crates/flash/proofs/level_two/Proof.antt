@@ -1,7 +1,7 @@
 use mathlib.Core.Path.{_≡_, _∙_}
 use denote.Ref.{now}
 use Rattle.reply.proofs.ReplyLaws.{then-told}
-use Rattle.directory.specs.Entry.{toldEntry}
+use Rattle.entries.specs.Entry.{toldEntry}
 use Rattle.flash.specs.Flash.{levelTwoAt}
 use borrow.Author.Needs.{needs}
 use Rattle.flash.proofs.level_two.Statement.{statement}

@@ -3,7 +3,7 @@ use denote.Ref.{now}
 use Rattle.reply.proofs.ReplyLaws.{then-told}
 use Rattle.window.specs.Window.{baseWindow}
 use Rattle.directory.specs.Directory.{pspKind, toldDirectory}
-use Rattle.directory.specs.Part.{partIn}
+use Rattle.entries.specs.Part.{partIn}
 use Rattle.directory.specs.declared.Kind.{Kind}
 use borrow.Author.Needs.{needs}
 use Rattle.flash.proofs.part.Statement.{statement}

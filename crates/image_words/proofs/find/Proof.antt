@@ -1,6 +1,6 @@
 use mathlib.Core.Path.{sym, ap, _∙_}
 use Rattle.lent.proofs.Laws.{given-number, given-words, tested-number, tested-words, alone-number, alone-words}
-use Rattle.directory.specs.Entry.{toldLookup}
+use Rattle.entries.specs.Entry.{toldLookup}
 use Rattle.image_words.specs.Images.{layMatch}
 use borrow.Author.Needs.{needs}
 use Rattle.image_words.proofs.find.Statement.{statement}

@@ -5,7 +5,7 @@ use denote.Ref.{now}
 use Rattle.reply.proofs.ReplyLaws.{then-told}
 use Rattle.window.specs.Window.{baseWindow}
 use Rattle.directory.specs.Directory.{pspKind, toldDirectory}
-use Rattle.directory.specs.Part.{partIn, bytesOf, beginOf}
+use Rattle.entries.specs.Part.{partIn, bytesOf, beginOf}
 use Rattle.directory.specs.declared.Kind.{Kind}
 use borrow.Author.Needs.{needs}
 use Rattle.place.proofs.bytes_at.Statement.{statement}

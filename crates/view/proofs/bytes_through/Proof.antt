@@ -5,7 +5,7 @@ use Prim.Native.Nat.{ℕ}
 use denote.Ref.{now}
 use Rattle.flash.specs.Flash.{base}
 use Rattle.place.specs.Place.{partAt, viewImage, partThrough}
-use Rattle.directory.specs.Part.{bytesOf, beginOf}
+use Rattle.entries.specs.Part.{bytesOf, beginOf}
 use denote.Triple.Spec.{tripleOf}
 use denote.Triple.Table.{entered, cited}
 use contract.Running.{givenOf, tables, tablesOf}

@@ -5,7 +5,7 @@ use Prim.Native.Nat.{ℕ}
 use denote.Ref.{now}
 use Rattle.flash.specs.Flash.{base}
 use Rattle.place.specs.Place.{entryAt, viewImage, entryThrough}
-use Rattle.directory.specs.Entry.{toldEntry}
+use Rattle.entries.specs.Entry.{toldEntry}
 use denote.Triple.Spec.{tripleOf}
 use denote.Triple.Table.{entered, cited}
 use contract.Running.{givenOf, tables, tablesOf}

@@ -4,7 +4,7 @@ use lib.Dec.{eqb}
 use borrow.Author.Needs.{needs}
 use borrow.Author.Tests.{eq-eqb, ne-eqb}
 use denote.Ref.{now}
-use Rattle.directory.specs.Entry.{entryOf, matchOf}
+use Rattle.entries.specs.Entry.{entryOf, matchOf}
 use Rattle.walk.proofs.Steps.{pass-is}
 use Rattle.walk.proofs.passes.Statement.{statement}
 use Rattle.walk.proofs.passes.Tie as tie

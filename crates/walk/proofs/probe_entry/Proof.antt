@@ -1,13 +1,13 @@
 use mathlib.Core.Path.{_≡_, sym, ap, _∙_}
 use denote.Ref.{now}
-use Rattle.directory.specs.Entry.{toldEntry}
+use Rattle.entries.specs.Entry.{toldEntry}
 use Rattle.walk.specs.Probe.{probed, probedBy}
 use borrow.Author.Needs.{needs}
 use Rattle.walk.proofs.probe_entry.Statement.{statement}
 use Rattle.walk.proofs.probe_entry.Tie as tie
 use Rattle.walk.proofs.probe_entry.Reads as reads
 use Rattle.walk.proofs.probe_entry.Lts as lts
-use Rattle.directory.proofs.entry_in.Reads as entry-in-reads
+use Rattle.entries.proofs.entry_in.Reads as entry-in-reads
 use Rattle.walk.proofs.tested_entry.Reads as tested-entry-reads
 
 -- src/lib.rt:84:11

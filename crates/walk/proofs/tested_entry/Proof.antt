@@ -6,7 +6,7 @@ use Rattle.walk.proofs.tested_entry.Statement.{statement}
 use Rattle.walk.proofs.tested_entry.Tie as tie
 use Rattle.walk.proofs.tested_entry.Reads as reads
 use Rattle.walk.proofs.tested_entry.Lts as lts
-use Rattle.directory.proofs.matches.Reads as matches-reads
+use Rattle.entries.proofs.matches.Reads as matches-reads
 use Rattle.walk.proofs.enter.Reads as enter-reads
 
 -- src/lib.rt:66:8

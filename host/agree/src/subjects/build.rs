@@ -1,11 +1,14 @@
 //! Random calls that write directories, with a digest around each: what is refused must change nothing.
 
 use super::damage::scatter;
-use super::directory::{repair, Directory, Entry, CLASSES, SUBPROGRAMS};
+use super::directory::{
+    free_pair, repair, tell_apart, Directory, Entry, Pair, CLASSES, SUBPROGRAMS,
+};
 use super::draft::Draft;
 use super::words::{hex, number};
 use super::{Script, Subject};
 use crate::random::Random;
+use std::collections::BTreeSet;
 
 pub const SUBJECT: Subject = Subject {
     name: "build",
@@ -18,13 +21,13 @@ const LARGEST: u64 = 16 + 16 * 512;
 fn script(random: &mut Random, calls: u64) -> Script {
     let mut draft = Draft::default();
     while draft.len() < calls {
-        prepare(random, &mut draft);
+        let mut there = prepare(random, &mut draft);
         for _ in 0..2 + random.below(10) {
             draft.line("digest a");
             let call = match random.once_in(12) {
                 // Over what is there, which may be a directory.
                 true => format!("start a {}", level(random)),
-                false => extend(random),
+                false => extend(random, &mut there),
             };
             draft.ask(random, call);
         }
@@ -34,8 +37,8 @@ fn script(random: &mut Random, calls: u64) -> Script {
     draft.script()
 }
 
-/// A buffer with a directory in it, started or given; mostly a good one.
-fn prepare(random: &mut Random, draft: &mut Draft) {
+/// A buffer with a directory in it, started or given; mostly a good one. Gives the types and subprograms of its entries.
+fn prepare(random: &mut Random, draft: &mut Draft) -> BTreeSet<Pair> {
     let entries = match random.below(7) {
         0 => 508 + random.below(6),
         1 => random.below(40),
@@ -53,7 +56,8 @@ fn prepare(random: &mut Random, draft: &mut Draft) {
     if random.once_in(2) {
         let call = format!("start a {}", level(random));
         draft.line("digest a");
-        return draft.ask(random, call);
+        draft.ask(random, call);
+        return BTreeSet::new();
     }
     let mut directory = directory(random, entries);
     for _ in 0..random.one_of(&[0, 0, 0, 0, 1, 2]) {
@@ -69,6 +73,7 @@ fn prepare(random: &mut Random, draft: &mut Draft) {
     // Where the buffer is too short, so is what lies in it.
     bytes.truncate(room as usize);
     draft.line(format!("patch a 0 {}", hex(random, &bytes)));
+    directory.entries.iter().map(Entry::pair).collect()
 }
 
 /// A directory of either level with so many entries.
@@ -87,7 +92,8 @@ fn directory(random: &mut Random, entries: u64) -> Directory {
         },
         word: if full { u64::MAX } else { random.number() },
     };
-    let entries = (0..entries).map(entry).collect();
+    let mut entries: Vec<Entry> = (0..entries).map(entry).collect();
+    tell_apart(random, &mut entries);
     Directory::of(level, entries)
 }
 
@@ -100,8 +106,8 @@ fn level(random: &mut Random) -> String {
     number(random, level)
 }
 
-/// A call that adds an entry, mostly one that may be added.
-fn extend(random: &mut Random) -> String {
+/// A call that adds an entry, mostly one that may be added. It counts as being there from then on, also where it is refused.
+fn extend(random: &mut Random, there: &mut BTreeSet<Pair>) -> String {
     let location = match random.below(6) {
         0 => random.one_of(&[1 << 62, (1 << 62) - 1, (1 << 62) + 1, u64::MAX, 1 << 63]),
         _ => random.number() >> (2 + random.below(62)),
@@ -110,8 +116,17 @@ fn extend(random: &mut Random) -> String {
         0 => random.one_of(&[4, 5, 256, 0xFFFF_FFFF]),
         _ => random.below(4),
     };
-    let class = random.one_of(&CLASSES);
-    let subprogram = random.one_of(&SUBPROGRAMS);
+    let (class, subprogram) = match there.len() as u64 {
+        amount if amount > 0 && random.once_in(8) => {
+            let pair = there.iter().nth(random.below(amount) as usize);
+            *pair.expect("there are so many")
+        }
+        _ => {
+            let wanted = (random.one_of(&CLASSES), random.one_of(&SUBPROGRAMS));
+            free_pair(wanted, there)
+        }
+    };
+    there.insert((class, subprogram));
     let size = random.number() as u32;
     let values = [
         u64::from(class),

@@ -1,6 +1,7 @@
 //! Directories for random images: right ones, and what breaks them. The checksum is this file's own.
 
 use crate::random::Random;
+use std::collections::BTreeSet;
 
 /// The type that leads to level two, and the type that holds a value.
 pub const LEAD: u8 = 0x40;
@@ -9,6 +10,9 @@ pub const VALUE: u8 = 0x0B;
 /// Types and subprograms that entries have and lookups ask for: few, so that they meet.
 pub const CLASSES: [u8; 8] = [0x00, 0x01, 0x02, 0x08, VALUE, 0x12, LEAD, 0xFF];
 pub const SUBPROGRAMS: [u8; 4] = [0, 0, 1, 0xFF];
+
+/// A type and a subprogram.
+pub type Pair = (u8, u8);
 
 /// An entry.
 #[derive(Clone, Debug, PartialEq, Eq)]
@@ -22,6 +26,15 @@ pub struct Entry {
 }
 
 impl Entry {
+    pub fn pair(&self) -> Pair {
+        (self.class, self.subprogram)
+    }
+
+    fn set_pair(&mut self, (class, subprogram): Pair) {
+        self.class = class;
+        self.subprogram = subprogram;
+    }
+
     pub fn bytes(&self) -> Vec<u8> {
         let mut bytes = vec![self.class, self.subprogram];
         bytes.extend(self.reserved.to_le_bytes());
@@ -29,6 +42,58 @@ impl Entry {
         bytes.extend(self.word.to_le_bytes());
         bytes
     }
+}
+
+/// A pair that is not taken: of the type wanted while it has a subprogram left, which only a lead of the largest directories lacks.
+pub fn free_pair((class, subprogram): Pair, taken: &BTreeSet<Pair>) -> Pair {
+    // No other type becomes a lead, which level two may not have.
+    let types = (0..=255)
+        .map(|step| class.wrapping_add(step))
+        .filter(|other| *other == class || *other != LEAD);
+    let pairs = types.flat_map(|class| {
+        let subprograms = (0..=255).map(move |step| subprogram.wrapping_add(step));
+        subprograms.map(move |subprogram| (class, subprogram))
+    });
+    let mut free = pairs.filter(|pair| !taken.contains(pair));
+    free.next().expect("no directory has so many entries")
+}
+
+/// Makes entries differ in type and subprogram, mostly. Then two are the same in some directories. A few are left as they fell, and of
+/// their entries many repeat.
+pub fn tell_apart(random: &mut Random, entries: &mut [Entry]) {
+    if random.once_in(30) {
+        return;
+    }
+    let mut taken = BTreeSet::new();
+    for entry in entries.iter_mut() {
+        entry.set_pair(free_pair(entry.pair(), &taken));
+        taken.insert(entry.pair());
+    }
+    if random.once_in(24) {
+        repeat_one(random, entries);
+    }
+}
+
+/// Gives an entry the type and subprogram of an earlier one, where there are two: often the first, the last, or neighbours.
+fn repeat_one(random: &mut Random, entries: &mut [Entry]) {
+    if entries.len() < 2 {
+        return;
+    }
+    let last = entries.len() as u64 - 1;
+    let later = match random.below(3) {
+        0 => last,
+        _ => 1 + random.below(last),
+    };
+    let earlier = match random.below(3) {
+        0 => 0,
+        1 => later - 1,
+        _ => random.below(later),
+    };
+    let pair = entries[earlier as usize].pair();
+    let entry = &mut entries[later as usize];
+    entry.set_pair(pair);
+    // Reserved bits of the same entry come before it.
+    entry.reserved |= u16::from(random.once_in(8));
 }
 
 /// A directory, its header field by field.
@@ -73,7 +138,7 @@ impl Directory {
             0 => None,
             _ => Some(random.below(last) as usize),
         };
-        match (random.below(10), entry) {
+        match (random.below(11), entry) {
             (0, _) => {
                 let other = cookie(3 - level_of(&self.cookie));
                 let strange = [b'$', b'B', b'H', b'D'];
@@ -92,6 +157,7 @@ impl Directory {
                 self.entries[at].reserved |= u16::from(random.once_in(4));
             }
             (7 | 8, Some(_)) => self.zero_a_half(random),
+            (9, Some(_)) if last > 1 => repeat_one(random, &mut self.entries),
             _ => self.wrong = random.number() as u32,
         }
     }
@@ -160,9 +226,13 @@ mod tests {
     use super::*;
 
     fn entry() -> Entry {
+        entry_of(1, 0)
+    }
+
+    fn entry_of(class: u8, subprogram: u8) -> Entry {
         Entry {
-            class: 1,
-            subprogram: 0,
+            class,
+            subprogram,
             reserved: 0,
             size: 0x100,
             word: 0x4000_0000_0000_1000,
@@ -191,6 +261,70 @@ mod tests {
         assert_eq!(bytes, good);
     }
 
+    /// How many entries have the type and subprogram of an earlier one.
+    fn repeats(entries: &[Entry]) -> usize {
+        let different: BTreeSet<Pair> = entries.iter().map(Entry::pair).collect();
+        entries.len() - different.len()
+    }
+
+    #[test]
+    fn entries_mostly_differ_and_seldom_one_repeats_and_more_seldom_many() {
+        for amount in [5, 60] {
+            let (mut none, mut one, mut many) = (0, 0, 0);
+            for seed in 0..400 {
+                let mut entries = vec![entry(); amount];
+                tell_apart(&mut Random::from_seed(seed), &mut entries);
+                match repeats(&entries) {
+                    0 => none += 1,
+                    1 => one += 1,
+                    _ => many += 1,
+                }
+            }
+            assert!(none > 320, "{none} of 400 directories have no repeat");
+            assert!(one > 8, "{one} have one");
+            assert!(many > 5, "{many} have many");
+        }
+    }
+
+    #[test]
+    fn a_directory_of_leads_keeps_as_many_of_them_as_there_are_subprograms() {
+        let mut entries = vec![entry_of(LEAD, 7); 512];
+        let seed = (0..).find(|seed| {
+            tell_apart(&mut Random::from_seed(*seed), &mut entries);
+            repeats(&entries) == 0
+        });
+        assert!(seed.is_some());
+        let leads = entries.iter().filter(|entry| entry.class == LEAD).count();
+        assert_eq!(leads, 256);
+    }
+
+    #[test]
+    fn what_is_not_a_lead_does_not_become_one() {
+        // All of 0x3F are taken, and the type above it is the lead's.
+        let taken: BTreeSet<Pair> = (0..=255).map(|subprogram| (0x3F, subprogram)).collect();
+        assert_eq!(free_pair((0x3F, 9), &taken), (0x41, 9));
+        assert_eq!(free_pair((LEAD, 9), &taken), (LEAD, 9));
+        assert_eq!(free_pair((2, 9), &taken), (2, 9));
+    }
+
+    #[test]
+    fn an_entry_is_made_to_repeat_first_and_last_and_any_other() {
+        let mut seen = BTreeSet::new();
+        for seed in 0..400 {
+            let mut entries: Vec<Entry> =
+                (0..4).map(|subprogram| entry_of(1, subprogram)).collect();
+            repeat_one(&mut Random::from_seed(seed), &mut entries);
+            assert_eq!(repeats(&entries), 1, "seed {seed}");
+            let later = (0..4).find(|k| usize::from(entries[*k].subprogram) != *k);
+            let later = later.expect("one entry has changed");
+            seen.insert((entries[later].subprogram, later));
+        }
+        // Every earlier with every later.
+        assert_eq!(seen.len(), 6, "{seen:?}");
+        repeat_one(&mut Random::from_seed(1), &mut [entry()]);
+        repeat_one(&mut Random::from_seed(1), &mut []);
+    }
+
     #[test]
     fn a_half_can_be_made_65535() {
         let mut halves = [0; 2];
@@ -209,7 +343,7 @@ mod tests {
     #[test]
     fn what_is_broken_differs() {
         for seed in 0..200 {
-            let good = Directory::of(2, vec![entry(), entry()]);
+            let good = Directory::of(2, vec![entry_of(1, 0), entry_of(1, 1)]);
             let mut bad = good.clone();
             bad.break_one(&mut Random::from_seed(seed));
             assert_ne!(good, bad, "seed {seed}");

@@ -1,7 +1,7 @@
 //! Random flash images: an EFS, level one, some directories of level two, and what breaks them.
 
 use super::damage::scatter;
-use super::directory::{repair, Directory, Entry, CLASSES, LEAD, SUBPROGRAMS};
+use super::directory::{repair, tell_apart, Directory, Entry, CLASSES, LEAD, SUBPROGRAMS};
 use super::draft::Draft;
 use super::words::{hex, number};
 use crate::random::Random;
@@ -112,9 +112,10 @@ impl Image {
         for _ in 0..random.one_of(&[0, 1, 1, 1, 2, 3]) {
             let amount = amount_of_entries(random);
             let place = self.place_for(random, amount);
-            let entries = (0..amount)
+            let mut entries: Vec<Entry> = (0..amount)
                 .map(|_| self.part_entry(random, place))
                 .collect();
+            tell_apart(random, &mut entries);
             below.push((place, Directory::of(2, entries)));
         }
         let amount = amount_of_entries(random);
@@ -126,8 +127,9 @@ impl Image {
             }
             _ => self.part_entry(random, place),
         });
-        let one = Directory::of(1, entries.collect());
-        self.directories.push((place, one));
+        let mut entries: Vec<Entry> = entries.collect();
+        tell_apart(random, &mut entries);
+        self.directories.push((place, Directory::of(1, entries)));
         self.directories.extend(below);
     }
 

@@ -531,6 +531,7 @@ fn start_and_extend_answer_as_the_page_has_it() {
          show a 0 32
          extend a 1 0 0x100 0x1000 1
          show a 0 32
+         extend a 1 1 0 0 0
          extend a 1 0 0 0 0
          extend a 1 0 0 0 4
          extend a 1 0 0 0x4000000000000000 0
@@ -546,6 +547,7 @@ fn start_and_extend_answer_as_the_page_has_it() {
         "ok total=1",
         "bytes 2450535002511486010000000000000001000000000100000010000000000040",
         "refused 12",
+        "refused 18",
         "refused 5",
         "refused 5",
         "refused 9",

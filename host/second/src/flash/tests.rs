@@ -29,6 +29,12 @@ fn raw(kind: u8, subprogram: u8, size: u32, location: u64, mode: u8) -> [u8; 16]
     bytes
 }
 
+/// Entries of which no two have the same type and subprogram: 256 of type 1, then of type 2, and so on.
+fn different(amount: usize) -> Vec<[u8; 16]> {
+    let entry = |k: usize| raw(1 + (k / 256) as u8, (k % 256) as u8, 0, 0, 1);
+    (0..amount).map(entry).collect()
+}
+
 fn put_efs(image: &mut [u8], at: usize, at_14: u32, at_10: u32) {
     put(image, at, &[0xAA, 0x55, 0xAA, 0x55]);
     put(image, at + 0x10, &at_10.to_le_bytes());
@@ -328,6 +334,10 @@ fn the_directory_checks_come_in_their_order() {
     image[o + 32 + 3] = 0;
     seal(&mut image, o);
     assert_eq!(number(directory(&image, 2)), 14);
+    // now the second entry is as the first
+    image[o + 32] = 1;
+    seal(&mut image, o);
+    assert_eq!(number(directory(&image, 2)), 18);
     image[o + 32] = 2;
     seal(&mut image, o);
     assert_eq!(directory(&image, 2).map(|d| d.total), Ok(2));
@@ -350,8 +360,11 @@ fn the_cookie_is_that_of_the_level_asked_for() {
 fn n_is_at_most_512() {
     let mut image = vec![0; EFS + 0x24];
     put_efs(&mut image, EFS, 0x100, 0);
-    put_directory(&mut image, 0x100, b"$PSP", &[raw(1, 2, 3, 4, 1); 512]);
+    put_directory(&mut image, 0x100, b"$PSP", &different(512));
     assert_eq!(directory(&image, 1).map(|d| d.total), Ok(512));
+    put_directory(&mut image, 0x100, b"$PSP", &different(513));
+    assert_eq!(number(directory(&image, 1)), 3);
+    // the total comes before entries that repeat
     put_directory(&mut image, 0x100, b"$PSP", &[raw(1, 2, 3, 4, 1); 513]);
     assert_eq!(number(directory(&image, 1)), 3);
     put(&mut image, 0x108, &u32::MAX.to_le_bytes());
@@ -375,7 +388,7 @@ fn all_entries_are_present_to_the_last_byte() {
     let o = L - 16 - 5 * 16;
     let mut image = image_of(&[]);
     put_efs(&mut image, EFS, o as u32, 0);
-    put_directory(&mut image, o, b"$PSP", &[raw(1, 0, 0, 0, 1); 5]);
+    put_directory(&mut image, o, b"$PSP", &different(5));
     assert_eq!(directory(&image, 1).map(|d| d.total), Ok(5));
     image.pop();
     assert_eq!(number(directory(&image, 1)), 1);
@@ -400,6 +413,267 @@ fn a_0x40_is_misplaced_in_level_two_alone() {
     assert_eq!(directory(&image, 1).map(|d| d.total), Ok(3));
     assert_eq!(number(directory(&image, 2)), 14);
     assert_eq!(number(find_image(&image, 7, 0)), 14);
+}
+
+// Entries that repeat
+
+/// Where the directories of `image_with` lie, with room for 512 entries in each.
+const WIDE_ONE: usize = 0x1000;
+const WIDE_TWO: usize = 0x8000;
+
+/// An image with these entries in that level. Behind them in level one, or alone there, stands a lead to level two.
+fn image_with(level: u32, entries: &[[u8; 16]]) -> Vec<u8> {
+    let lead = [raw(0x40, 0xFF, 0, WIDE_TWO as u64, 1)];
+    let (one, two) = match level {
+        1 => ([entries, &lead].concat(), vec![]),
+        _ => (lead.to_vec(), entries.to_vec()),
+    };
+    let mut image = vec![0; L];
+    put_efs(&mut image, EFS, WIDE_ONE as u32, 0);
+    put_directory(&mut image, WIDE_ONE, b"$PSP", &one);
+    put_directory(&mut image, WIDE_TWO, b"$PL2", &two);
+    image
+}
+
+/// The number with which every call that reads a directory of that level is refused, which is one for all of them.
+fn refused_by_all(image: &[u8], level: u32) -> u8 {
+    let place = if level == 1 { WIDE_ONE } else { WIDE_TWO } as u64;
+    let view = View { image, place };
+    let numbers = [
+        number(directory(image, level)),
+        number(entry(image, level, 0)),
+        number(bytes(image, level, 0)),
+        number(find(image, level, 1, 0)),
+        number(View::of(image, level)),
+        number(view.entry(0)),
+        number(view.bytes(0)),
+        // A lookup in the whole image for what is in neither level.
+        number(find_image(image, 0xEE, 0xEE)),
+    ];
+    assert_eq!(numbers, [numbers[0]; 8]);
+    numbers[0]
+}
+
+/// Reserved bits are set in the entry.
+fn with_reserved(mut entry: [u8; 16]) -> [u8; 16] {
+    entry[3] = 0x80;
+    entry
+}
+
+#[test]
+fn an_entry_that_repeats_any_earlier_one_is_18() {
+    for level in [1, 2] {
+        // level one has a lead behind the others, which makes 512
+        let most = if level == 1 { 511 } else { 512 };
+        let good = different(most);
+        assert!(directory(&image_with(level, &good), level).is_ok());
+        for (earlier, later) in [
+            (0, 1),
+            (0, 2),
+            (0, most - 1),
+            (1, most - 1),
+            (100, 300),
+            (255, 256),
+            (most - 2, most - 1),
+        ] {
+            let mut entries = good.clone();
+            // all but the type and the subprogram differs
+            let [kind, subprogram] = [good[earlier][0], good[earlier][1]];
+            entries[later] = raw(kind, subprogram, 0x1234, 0x5678, 2);
+            let image = image_with(level, &entries);
+            assert_eq!(refused_by_all(&image, level), 18, "{earlier} {later}");
+        }
+    }
+}
+
+#[test]
+fn the_type_and_the_subprogram_must_both_be_the_same() {
+    for level in [1, 2] {
+        let [a, b] = [raw(1, 2, 0, 0, 1), raw(2, 1, 0, 0, 1)];
+        let same_type = raw(1, 3, 0, 0, 1);
+        let same_subprogram = raw(3, 2, 0, 0, 1);
+        for entries in [
+            vec![a, same_type],
+            vec![a, same_subprogram],
+            vec![a, b],
+            vec![raw(0, 0, 0, 0, 1), raw(0, 0xFF, 0, 0, 1)],
+            vec![raw(0xFF, 0, 0, 0, 1), raw(0, 0, 0, 0, 1)],
+            vec![a, b, same_type, same_subprogram],
+        ] {
+            let image = image_with(level, &entries);
+            assert!(directory(&image, level).is_ok(), "{entries:?}");
+            let again = [&entries[..], &entries[..1]].concat();
+            let image = image_with(level, &again);
+            assert_eq!(refused_by_all(&image, level), 18, "{again:?}");
+        }
+    }
+}
+
+#[test]
+fn levels_one_and_two_may_share_a_type_and_subprogram() {
+    let image = image_of_two(&[raw(2, 0, 0, 0, 1), raw(1, 0, 0, 0, 1)]);
+    let found = |kind| find_image(&image, kind, 0).map(|f| (f.level, f.index, f.tested));
+    assert_eq!(found(1), Ok((Level::One, 0, 1)));
+    assert_eq!(found(2), Ok((Level::Two, 0, 3)));
+    // and two directories of level two may
+    let mut image = image_of(&[
+        raw(0x40, 0, 0, TWO as u64, 1),
+        raw(0x40, 1, 0, TWO as u64 + 0x100, 1),
+    ]);
+    put_directory(&mut image, TWO, b"$PL2", &different(3));
+    put_directory(&mut image, TWO + 0x100, b"$PL2", &different(4));
+    assert_eq!(
+        find_image(&image, 1, 3).map(|f| (f.place, f.tested)),
+        Ok((TWO as u64 + 0x100, 9))
+    );
+}
+
+#[test]
+fn what_repeats_in_level_one_is_18_for_level_two_as_well() {
+    let lead = raw(0x40, 0, 0, WIDE_TWO as u64, 1);
+    assert!(directory(&image_with(1, &[lead]), 2).is_ok());
+    let image = image_with(1, &[lead, lead]);
+    assert_eq!(refused_by_all(&image, 1), 18);
+    assert_eq!(number(directory(&image, 2)), 18);
+    // even where the match comes first of all
+    assert_eq!(number(find_image(&image, 0x40, 0)), 18);
+}
+
+#[test]
+fn the_first_entry_that_repeats_is_named_with_the_first_that_it_repeats() {
+    let [a, b, c] = [raw(1, 2, 0, 0, 1), raw(1, 3, 0, 0, 1), raw(3, 2, 7, 8, 2)];
+    for level in [1, 2] {
+        for (entries, expected) in [
+            (vec![a, b, c], None),
+            (vec![a, b, c, b], Some((3, 1, 1, 3))),
+            (vec![a, b, a, b, a], Some((2, 0, 1, 2))),
+            (vec![c, a, b, b, a, c], Some((3, 2, 1, 3))),
+        ] {
+            let image = image_with(level, &entries);
+            let expected = expected
+                .map(|(index, earlier, kind, subprogram)| Repeat {
+                    index,
+                    earlier,
+                    kind,
+                    subprogram,
+                })
+                .ok_or(Refusal::of(8));
+            assert_eq!(repeated(&image, level), expected, "{entries:?}");
+        }
+        // any other refusal is that of the directory
+        let image = image_with(level, &[with_reserved(a), a]);
+        assert_eq!(number(repeated(&image, level)), 5);
+    }
+    // level two is not reached
+    let image = image_with(1, &[a, a]);
+    assert_eq!(number(repeated(&image, 2)), 18);
+    assert_eq!(number(repeated(&image, 3)), 9);
+    assert_eq!(number(repeated(&[], 1)), 15);
+}
+
+#[test]
+fn a_level_two_that_repeats_is_met_where_the_walk_comes_to_it() {
+    let image = image_of_two(&[raw(9, 0, 0, 0, 1), raw(9, 0, 0, 0, 1)]);
+    assert_eq!(find_image(&image, 1, 0).map(|f| f.tested), Ok(1));
+    assert_eq!(find_image(&image, 0x40, 0).map(|f| f.tested), Ok(2));
+    assert_eq!(number(find_image(&image, 9, 0)), 18);
+    assert_eq!(number(find_image(&image, 2, 0)), 18);
+    assert_eq!(find(&image, 1, 2, 0).map(|f| f.tested), Ok(3));
+}
+
+#[test]
+fn the_first_entry_with_a_fault_decides_and_in_it_5_then_14_then_18() {
+    let a = raw(1, 0, 0, 0, 1);
+    let b = raw(2, 0, 0, 0, 1);
+    let lead = raw(0x40, 0, 0, 0, 1);
+    for (level, entries, expected) in [
+        // a repeat before another fault, and behind it
+        (1, vec![a, a, with_reserved(b)], 18),
+        (1, vec![a, with_reserved(b), a], 5),
+        (2, vec![a, a, with_reserved(b)], 18),
+        (2, vec![a, with_reserved(b), a], 5),
+        (2, vec![a, a, lead], 18),
+        (2, vec![a, lead, a], 14),
+        // both at one entry
+        (1, vec![a, with_reserved(a)], 5),
+        (2, vec![a, b, with_reserved(a)], 5),
+        (2, vec![lead, lead], 14),
+        (2, vec![a, with_reserved(lead), lead], 5),
+        // what is wrong with the earlier of two comes before its repeat
+        (1, vec![with_reserved(a), a], 5),
+        // in level one a second lead is a repeat and nothing else
+        (1, vec![lead, a, lead], 18),
+        (1, vec![lead, a, with_reserved(lead)], 5),
+    ] {
+        let image = image_with(level, &entries);
+        assert_eq!(refused_by_all(&image, level), expected, "{entries:?}");
+    }
+    // the checks before the entries come first: total, checksum, the header's reserved bits
+    let mut image = image_with(2, &[a, a]);
+    image[WIDE_TWO + 12] = 1;
+    assert_eq!(refused_by_all(&image, 2), 4);
+    seal(&mut image, WIDE_TWO);
+    assert_eq!(refused_by_all(&image, 2), 5);
+}
+
+#[test]
+fn all_512_entries_may_differ_by_the_least_bit_or_the_highest() {
+    for level in [1, 2] {
+        let mut buffer = vec![0; 16 + 16 * 512];
+        // types 0x01 and 0x81, with all subprograms
+        let entries: Vec<[u8; 16]> = (0..512u32)
+            .map(|k| raw(1 | (k % 2 * 0x80) as u8, (k / 2) as u8, 0, 0, 0))
+            .collect();
+        let level = Level::numbered(level).unwrap();
+        put_directory(&mut buffer, 0, level.cookie(), &entries);
+        let read = checked_directory(&buffer, 0, level).unwrap();
+        assert_eq!(read.total, 512);
+        for (index, entry) in (0..).zip(&entries) {
+            let found = read.find(entry[0], entry[1]);
+            assert_eq!(found.map(|f| f.index), Ok(index));
+        }
+    }
+}
+
+#[test]
+fn extending_by_what_is_there_is_18_and_changes_nothing() {
+    for cookie in [b"$PSP", b"$PL2"] {
+        let mut buffer = vec![0xA5; 16 + 16 * 6];
+        put_directory(&mut buffer, 0, cookie, &different(3));
+        let before = buffer.clone();
+        let wanted = |kind, subprogram, mode| Entry {
+            kind,
+            subprogram,
+            size: 7,
+            location: 9,
+            mode,
+        };
+        // each entry that is there, by type and subprogram alone
+        for subprogram in 0..3 {
+            assert_eq!(number(extend(&mut buffer, &wanted(1, subprogram, 3))), 18);
+            assert_eq!(number(extend(&mut buffer, &wanted(1, subprogram, 4))), 5);
+        }
+        assert_eq!(buffer, before);
+        assert_eq!(extend(&mut buffer, &wanted(1, 3, 3)), Ok(4));
+        assert_eq!(extend(&mut buffer, &wanted(2, 1, 3)), Ok(5));
+        // what was added counts from then on
+        assert_eq!(number(extend(&mut buffer, &wanted(2, 1, 0))), 18);
+        assert_eq!(extend(&mut buffer, &wanted(0, 1, 0)), Ok(6));
+        // no room is left: 12, but 18 first
+        assert_eq!(number(extend(&mut buffer, &wanted(0, 1, 0))), 18);
+        assert_eq!(number(extend(&mut buffer, &wanted(0, 2, 0))), 12);
+    }
+}
+
+#[test]
+fn a_second_lead_is_18_in_level_one_and_14_in_level_two() {
+    let mut buffer = vec![0; 64];
+    start(&mut buffer, 1).unwrap();
+    assert_eq!(extend(&mut buffer, &entry_of(0x40, 0, 0)), Ok(1));
+    assert_eq!(number(extend(&mut buffer, &entry_of(0x40, 1, 1))), 18);
+    // A level two never holds a lead, so there an extend by one is a 14 and no repeat.
+    start(&mut buffer, 2).unwrap();
+    assert_eq!(number(extend(&mut buffer, &entry_of(0x40, 0, 0))), 14);
 }
 
 // Opening level two
@@ -493,7 +767,7 @@ fn an_entry_has_its_fields() {
 
 #[test]
 fn entry_12_of_12_is_8_whatever_follows() {
-    let mut image = image_of(&[raw(1, 0, 0, 0, 1); 13]);
+    let mut image = image_of(&different(13));
     put(&mut image, ONE + 8, &12u32.to_le_bytes());
     seal(&mut image, ONE);
     assert!(entry(&image, 1, 11).is_ok());
@@ -514,7 +788,7 @@ fn bytes_are_refused_by_8_then_17_then_16_then_7() {
     let image = image_of(&[
         raw(0x0B, 0, u32::MAX, (1 << 62) - 1, 3),
         raw(0x0C, 0, u32::MAX, (1 << 62) - 1, 3),
-        raw(0x0C, 0, u32::MAX, (1 << 62) - 1, 2),
+        raw(0x0C, 1, u32::MAX, (1 << 62) - 1, 2),
     ]);
     let numbers = [3, 0, 1, 2].map(|index| number(bytes(&image, 1, index)));
     assert_eq!(numbers, [8, 17, 16, 7]);
@@ -569,12 +843,12 @@ fn mode_2_counts_from_the_directory_that_has_the_entry() {
 // Lookup in one directory
 
 #[test]
-fn a_lookup_gives_the_lowest_match_and_how_many_were_tested() {
+fn a_lookup_gives_the_match_and_how_many_were_tested() {
     let image = image_of(&[
         raw(1, 0, 0, 0, 1),
         raw(2, 1, 0, 0, 1),
         raw(2, 0, 0, 0, 1),
-        raw(2, 0, 0, 0, 1),
+        raw(2, 2, 0, 0, 1),
     ]);
     let found = |index| {
         Ok(Found {
@@ -642,7 +916,8 @@ fn level_two_is_walked_before_the_next_entry() {
 
 #[test]
 fn a_match_behind_level_two_counts_its_entries() {
-    let image = image_of_two(&[raw(9, 0, 0, 0, 1); 7]);
+    // of type 1 with subprograms 0 to 6: none is what is asked for, and the first is also in level one
+    let image = image_of_two(&different(7));
     assert_eq!(
         find_image(&image, 2, 0),
         Ok(FoundInImage {
@@ -669,10 +944,11 @@ fn a_0x40_that_does_not_match_in_its_subprogram_is_entered() {
 
 #[test]
 fn every_0x40_is_entered_and_counted_each_time() {
-    let leading = raw(0x40, 0, 0, TWO as u64, 1);
-    let mut image = image_of(&[leading, leading, raw(1, 0, 0, 0, 1), leading]);
-    put_directory(&mut image, TWO, b"$PL2", &[raw(9, 0, 0, 0, 1); 5]);
-    assert_eq!(find_image(&image, 1, 0).map(|f| f.tested), Ok(13));
+    let leading = |subprogram| raw(0x40, subprogram, 0, TWO as u64, 1);
+    let between = raw(9, 0, 0, 0, 1);
+    let mut image = image_of(&[leading(0), leading(7), between, leading(1)]);
+    put_directory(&mut image, TWO, b"$PL2", &different(5));
+    assert_eq!(find_image(&image, 9, 0).map(|f| f.tested), Ok(13));
     assert_eq!(find_image(&image, 8, 0), Err(Refusal::not_found(19)));
 }
 
@@ -686,7 +962,7 @@ fn the_first_fault_before_a_match_is_the_answer() {
     assert_eq!(number(find_image(&image, 9, 0)), 5);
     assert_eq!(number(find_image(&image, 2, 0)), 5);
     // two faults on the way
-    image[ONE + 16 + 32..ONE + 16 + 48].copy_from_slice(&raw(0x40, 0, 0, 0, 3));
+    image[ONE + 16 + 32..ONE + 16 + 48].copy_from_slice(&raw(0x40, 1, 0, 0, 3));
     seal(&mut image, ONE);
     assert_eq!(number(find_image(&image, 3, 0)), 5);
     image[TWO + 34] = 0;
@@ -696,14 +972,17 @@ fn the_first_fault_before_a_match_is_the_answer() {
 }
 
 #[test]
-fn five_hundred_and_twelve_times_five_hundred_and_twelve() {
+fn the_longest_walk_follows_256_leads_into_512_entries_each() {
     let mut image = vec![0; 0x4_0000];
     put_efs(&mut image, EFS, 0x3_0000, 0);
-    let leading = raw(0x40, 0, 0, 0x100, 1);
-    put_directory(&mut image, 0x3_0000, b"$PSP", &[leading; 512]);
-    put_directory(&mut image, 0x100, b"$PL2", &[raw(1, 0, 0, 0, 1); 512]);
-    let all = 512 + 512 * 512;
-    assert_eq!(find_image(&image, 2, 0), Err(Refusal::not_found(all)));
+    // no more than 256 entries of one type differ in their subprogram
+    let leads = (0..=255).map(|subprogram| raw(0x40, subprogram, 0, 0x100, 1));
+    let mut one: Vec<[u8; 16]> = leads.collect();
+    one.extend(different(256));
+    put_directory(&mut image, 0x3_0000, b"$PSP", &one);
+    put_directory(&mut image, 0x100, b"$PL2", &different(512));
+    let all = 512 + 256 * 512;
+    assert_eq!(find_image(&image, 3, 0), Err(Refusal::not_found(all)));
 }
 
 // Views
@@ -843,17 +1122,17 @@ fn an_extended_directory_has_one_entry_more_and_is_good() {
             assert_eq!(directory.total, n + 1);
             assert_eq!(directory.entry(u64::from(n)), Ok(entry));
         }
-        // 3 comes before 12, and room would be there too
-        assert_eq!(number(extend(&mut buffer, &entry_of(1, 0, 0))), 3);
+        // 3 comes before 12, and room would be there too; no entry is of type 0x41
+        assert_eq!(number(extend(&mut buffer, &entry_of(0x41, 0, 0))), 3);
         buffer.resize(16 + 16 * 513, 0);
-        assert_eq!(number(extend(&mut buffer, &entry_of(1, 0, 0))), 3);
+        assert_eq!(number(extend(&mut buffer, &entry_of(0x41, 0, 0))), 3);
     }
 }
 
 #[test]
 fn extending_is_refused_in_its_order_and_then_changes_nothing() {
     let mut buffer = vec![0; 16 + 16 * 512];
-    put_directory(&mut buffer, 0, b"$PL2", &[raw(1, 0, 0, 0, 1); 512]);
+    put_directory(&mut buffer, 0, b"$PL2", &different(512));
     let refused = |buffer: &[u8], entry: &Entry| {
         let mut copy = buffer.to_vec();
         let number = number(extend(&mut copy, entry));
@@ -868,14 +1147,19 @@ fn extending_is_refused_in_its_order_and_then_changes_nothing() {
     assert_eq!(refused(&buffer, &entry_of(0x40, 0, 4)), 5);
     assert_eq!(refused(&buffer, &entry_of(0x40, u64::MAX, u32::MAX)), 5);
     assert_eq!(refused(&buffer, &entry_of(0x40, too_far - 1, 3)), 14);
+    // types 1 and 2 with subprogram 0 are there: entries 0 and 256
+    assert_eq!(refused(&buffer, &entry_of(2, too_far, 3)), 5);
+    assert_eq!(refused(&buffer, &entry_of(2, 0, 4)), 5);
+    for there in [1, 2] {
+        assert_eq!(refused(&buffer, &entry_of(there, too_far - 1, 3)), 18);
+    }
     assert_eq!(refused(&buffer, &entry_of(0x41, too_far - 1, 3)), 3);
-    put_directory(&mut buffer, 0, b"$PL2", &[raw(1, 0, 0, 0, 1); 511]);
-    assert_eq!(
-        refused(&buffer[..16 + 16 * 512 - 1], &entry_of(1, 0, 0)),
-        12
-    );
+    put_directory(&mut buffer, 0, b"$PL2", &different(511));
+    let cut = &buffer[..16 + 16 * 512 - 1];
+    assert_eq!(refused(cut, &entry_of(3, 0, 0)), 12);
+    assert_eq!(refused(cut, &entry_of(1, 0, 0)), 18);
     assert_eq!(refused(&buffer[..16 + 16 * 511], &entry_of(0x40, 0, 0)), 14);
-    assert_eq!(extend(&mut buffer, &entry_of(1, too_far - 1, 3)), Ok(512));
+    assert_eq!(extend(&mut buffer, &entry_of(3, too_far - 1, 3)), Ok(512));
     assert_eq!(u64_at(&buffer, 16 + 16 * 511 + 8), u64::MAX);
 }
 
@@ -890,7 +1174,14 @@ fn extending_checks_the_directory_with_the_level_by_its_cookie() {
     // a 14 inside the directory comes before the 5 of what is asked for
     assert_eq!(number(extend(&mut buffer, &entry_of(1, u64::MAX, 9))), 14);
     put(&mut buffer, 0, b"$PSP");
-    assert_eq!(extend(&mut buffer, &entry_of(0x40, 0, 0)), Ok(2));
+    assert_eq!(extend(&mut buffer, &entry_of(0x41, 0, 0)), Ok(2));
+    // so does an 18 inside it
+    buffer[32] = 0x40;
+    seal(&mut buffer, 0);
+    assert_eq!(number(extend(&mut buffer, &entry_of(1, u64::MAX, 9))), 18);
+    buffer[33] = 1;
+    seal(&mut buffer, 0);
+    assert_eq!(extend(&mut buffer, &good), Ok(3));
     buffer[12] = 1;
     seal(&mut buffer, 0);
     assert_eq!(number(extend(&mut buffer, &good)), 5);

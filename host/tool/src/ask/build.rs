@@ -47,7 +47,7 @@ mod tests {
     #[test]
     fn a_directory_is_started_and_extended() {
         let calls = "start a 1\nshow a 0 16\nextend a 1 0 0x100 0x1000 1\nshow a 4 8\n\
-                     extend a 0x40 0 0 0x3fffffffffffffff 3\nextend a 1 0 0 0 0\n";
+                     extend a 0x40 0 0 0x3fffffffffffffff 3\nextend a 1 1 0 0 0\n";
         let expected = [
             "ok",
             "bytes 24505350ffffffff0000000000000000",
@@ -63,11 +63,17 @@ mod tests {
     fn what_is_refused_keeps_the_buffer() {
         let calls =
             "digest a\nstart a 0\nextend a 1 0 0 0x4000000000000000 1\nextend a 1 0 0 0 4\n\
-                     extend a 0x40 0 0 0 1\ndigest a\n";
-        let answers = answers_after("buffer a 48\nstart a 2\n", calls);
-        let refused = ["refused 9", "refused 5", "refused 5", "refused 14"];
-        assert_eq!(answers[1..5], refused);
-        assert_eq!(answers[0], answers[5]);
+                     extend a 0x40 0 0 0 1\nextend a 1 0 7 7 1\ndigest a\n";
+        let answers = answers_after("buffer a 48\nstart a 2\nextend a 1 0 0 0 0\n", calls);
+        let refused = [
+            "refused 9",
+            "refused 5",
+            "refused 5",
+            "refused 14",
+            "refused 18",
+        ];
+        assert_eq!(answers[1..6], refused);
+        assert_eq!(answers[0], answers[6]);
     }
 
     #[test]

@@ -1,8 +1,9 @@
 //! What the library says of one image: the answers that a register shows, and no others.
 
+use crate::repeats;
 use bindings::{
     directory, efs, find_image, pointer, version, view_entry, view_part, Answer, Directory, Efs,
-    Entry, ImageMatch, Part, Pointer, Refusal,
+    Entry, ImageMatch, Part, Pointer, Refusal, Repeat,
 };
 
 /// The entry types that every register is asked for, by the lookup in the whole image and with subprogram 0. The first is
@@ -28,6 +29,8 @@ pub struct Facts {
 pub struct Level {
     pub level: u32,
     pub directory: Answer<Directory>,
+    /// The entries that repeat, where the directory is refused for that.
+    pub repeat: Option<Repeat>,
     /// Every entry, in order; none where the directory is refused.
     pub entries: Vec<Row>,
 }
@@ -123,6 +126,7 @@ impl Level {
         Level {
             level,
             directory,
+            repeat: repeats::in_level(image, level, directory.err()),
             entries: directory.map_or_else(|_| Vec::new(), rows),
         }
     }

@@ -9,7 +9,7 @@ pub use crate::images::FORMAT;
 use crate::json::Json;
 use crate::names;
 use crate::refusals;
-use bindings::Answer;
+use bindings::{Answer, Repeat};
 
 // ---- JSON
 
@@ -81,10 +81,22 @@ fn level(level: &Level) -> Json {
         ("place", field(level.directory, |found| found.place)),
         ("total", field(level.directory, |found| found.total)),
         ("refused", refusals::json(&level.directory)),
+        ("repeat", repeat(level.repeat)),
         (
             "entries",
             Json::List(rows.map(|(index, row)| entry(index, row)).collect()),
         ),
+    ])
+}
+
+/// The entries that repeat, or nulls where none does.
+fn repeat(repeat: Option<Repeat>) -> Json {
+    let number = |of: fn(Repeat) -> u64| Json::or_null(repeat, |repeat| Json::Number(of(repeat)));
+    Json::Object(vec![
+        ("index", number(|repeat| repeat.index)),
+        ("earlier", number(|repeat| repeat.earlier)),
+        ("type", number(|repeat| repeat.class)),
+        ("subprogram", number(|repeat| repeat.subprogram)),
     ])
 }
 
@@ -152,7 +164,7 @@ pub fn summary(summary: &Summary) -> Json {
 // ---- CSV: the same values, a row for each image, directory, entry and question
 
 /// The columns. A row fills those that its kind has, and leaves the others empty.
-const COLUMNS: [&str; 29] = [
+const COLUMNS: [&str; 33] = [
     "format",
     "row",
     "file",
@@ -182,6 +194,10 @@ const COLUMNS: [&str; 29] = [
     "directory",
     "tested",
     "version",
+    "repeat_index",
+    "repeat_earlier",
+    "repeat_type",
+    "repeat_subprogram",
 ];
 
 /// The line with the columns' names.

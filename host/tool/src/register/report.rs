@@ -5,6 +5,7 @@ use super::outcome::{Outcome, Source, Summary};
 use crate::layout::{kept, Look, Page};
 use crate::names;
 use crate::refusals;
+use crate::repeats;
 
 /// What is shown of an image.
 pub fn image(page: &mut Page, source: &Source, outcome: &Outcome) {
@@ -117,7 +118,13 @@ fn directory(page: &mut Page, facts: &Facts, level: &Level) {
             Look::Plain,
             format!("{name}: none, for no entry of level one leads to it"),
         ),
-        Err(refusal) => (Look::Bad, format!("{name}: {}", refusals::told(refusal))),
+        Err(refusal) => {
+            let named = level.repeat.map_or(String::new(), |repeat| {
+                format!("; {}", repeats::words(repeat))
+            });
+            let line = format!("{name}: {}{named}", refusals::told(refusal));
+            (Look::Bad, line)
+        }
     };
     if facts.levels[0].directory.is_ok() {
         page.gap();

@@ -1,0 +1,140 @@
+-- The answer of a directory's entries, by the first that is at fault. Assumes nothing.
+use mathlib.Core.Path.{_≡_, refl, sym, ap, ap₂, _∙_}
+use mathlib.Core.List.{List}
+use mathlib.Core.Bool.{Bool, true, false, not, cond, _&&_, _||_}
+use Prim.Native.Nat.{ℕ, zero, suc, _+_, _*_, _-_, _/_, _%_, _<_, _≤_}
+use native.Mathlib.Nat.{mul-le-mul-right, add-mul}
+use native.Mathlib.Omega.{arith}
+use borrow.Author.Tests.{lt-ltb, le-ltb, ltb-true, ltb-false}
+use lib.ListN.{getD}
+use lib.Dec.{ltb}
+use Rattle.le.specs.Le.{Bytes}
+use Rattle.reply.specs.Reply.{Reply, given, refused, alone}
+use Rattle.reply.specs.Scan.{scan, Lowest}
+use Rattle.reply.specs.Some.{someBelow, firstBelow}
+use Rattle.reply.proofs.ReplyLaws.{passed, failed, apart}
+use Rattle.reply.proofs.ScanLaws.{scan-start, scan-end, scan-stop, scan-pass}
+use Rattle.reply.proofs.SomeLaws.{none-below, some-lowest, Found}
+use Rattle.directory.specs.Directory.{entryPlace, reservedZero, placedIn, wellPlaced, repeatsEarlier, mayRepeat, entryStep, directoryOf, entriesAt}
+use Rattle.directory.specs.Looks.{headAt, faultyHead, faultyAt, badAt, endedAt}
+use Rattle.directory.specs.declared.Kind.{Kind}
+use Rattle.directory.specs.declared.Directory.{Directory}
+use Rattle.directory.proofs.Heads.{head-reserved, head-type, may-first, may-not, may-any}
+
+-- an entry of n that lie in the image lies in it
+pub entry-inside : (kind : Kind) (o n i len : ℕ) → o + 16 + n * kind .entry ≤ len → i < n → o + 16 + i * kind .entry + kind .entry ≤ len
+entry-inside kind o n i len h l =
+    let a : (i + 1) * kind .entry ≤ n * kind .entry = mul-le-mul-right (kind .entry) (omega arith) in
+    omega (arith, add-mul i 1 (kind .entry))
+
+-- so do fewer
+pub fewer-inside : (kind : Kind) (o n m len : ℕ) → o + 16 + n * kind .entry ≤ len → m ≤ n → o + 16 + m * kind .entry ≤ len
+fewer-inside kind o n m len h l =
+    let a : m * kind .entry ≤ n * kind .entry = mul-le-mul-right (kind .entry) l in
+    omega arith
+
+-- below a bound on its high half
+pub head-below : (head bound : ℕ) → ltb head (65536 * bound) ≡ ltb (head / 65536) bound
+head-below head bound = by (ltb (head / 65536) bound) refl
+  where
+    by : (b : Bool) → ltb (head / 65536) bound ≡ b → ltb head (65536 * bound) ≡ b
+    by true q = lt-ltb head (65536 * bound) (let l : head / 65536 < bound = ltb-true _ _ q in omega arith)
+    by false q = le-ltb head (65536 * bound) (let l : bound ≤ head / 65536 = ltb-false _ _ q in omega arith)
+
+-- neither of two
+pub or-false : (a b : Bool) → (a || b) ≡ false → (a ≡ false) × (b ≡ false)
+or-false true b e = apart refl e
+or-false false b e = (refl, e)
+
+-- which of two tests fails
+both-pass : (a b : Bool) → not (a && b) ≡ false → (a ≡ true) × (b ≡ true)
+both-pass true true e = (refl, refl)
+both-pass true false e = apart refl e
+both-pass false b e = apart refl e
+
+one-fails : (a b : Bool) → not (a && b) ≡ true → a ≡ true → b ≡ false
+one-fails true true e q = apart e refl
+one-fails true false e q = refl
+one-fails false b e q = apart q refl
+
+module _ (kind : Kind) (level : ℕ) (s : List ℕ) (o n : ℕ) (bytes : Bytes s) where
+  reserved-is : (i : ℕ) → ltb (headAt kind s o i / 65536) (kind .clear) ≡ reservedZero kind s (entryPlace kind o i)
+  reserved-is i = ap (λ (x : ℕ). ltb x (kind .clear)) (head-reserved kind s o bytes i)
+
+  placed-is : (i : ℕ) → placedIn kind level (headAt kind s o i % 256) ≡ wellPlaced kind level s (entryPlace kind o i)
+  placed-is i = ap (placedIn kind level) (head-type kind s o bytes i)
+
+  -- an entry that is not at fault is passed by
+  on : (i : ℕ) → faultyAt kind level s o i ≡ false → mayRepeat kind s o i ≡ true → (rest : Reply Directory) → entryStep kind level s o i rest ≡ rest
+  on i f m rest =
+      let g = both-pass _ _ f in
+      passed _ _ _ _ (sym (reserved-is i) ∙ g .0) ∙ passed _ _ _ _ (sym (placed-is i) ∙ g .1) ∙ passed _ _ _ _ m
+
+  repeated : (i : ℕ) → faultyAt kind level s o i ≡ false → mayRepeat kind s o i ≡ false → (rest : Reply Directory) → entryStep kind level s o i rest ≡ refused 18 alone
+  repeated i f m rest =
+      let g = both-pass _ _ f in
+      passed _ _ _ _ (sym (reserved-is i) ∙ g .0) ∙ passed _ _ _ _ (sym (placed-is i) ∙ g .1) ∙ failed _ _ _ _ m
+
+  -- the answer of the entries from k on, where those before it are not at fault
+  reach : (k : ℕ) → k ≤ n → ((j : ℕ) → j < k → faultyAt kind level s o j ≡ false) → ((j : ℕ) → j < k → mayRepeat kind s o j ≡ true) →
+      scan (entryStep kind level s o) (λ _. given (directoryOf o level n)) (n - k) k ≡ entriesAt kind level s o n
+  reach zero h f m = scan-start (entryStep kind level s o) (λ _. given (directoryOf o level n)) n
+  reach (suc k) h f m =
+      ap (λ (x : ℕ). scan (entryStep kind level s o) (λ _. given (directoryOf o level n)) (n - x) x) (let e : suc k ≡ k + 1 = omega arith in e)
+      ∙ sym (scan-pass (entryStep kind level s o) (λ _. given (directoryOf o level n)) n k (omega arith) (on k (f k (omega arith)) (m k (omega arith))))
+      ∙ reach k (omega arith) (λ j l. f j (omega arith)) (λ j l. m j (omega arith))
+
+  -- the answer at entry k
+  stop : (k number : ℕ) → k < n → ((j : ℕ) → j < k → faultyAt kind level s o j ≡ false) → ((j : ℕ) → j < k → mayRepeat kind s o j ≡ true) →
+      ((rest : Reply Directory) → entryStep kind level s o k rest ≡ refused number alone) → refused number alone ≡ entriesAt kind level s o n
+  stop k number h f m e =
+      sym (scan-stop (entryStep kind level s o) (λ _. given (directoryOf o level n)) n k (refused number alone) h e) ∙ reach k (omega arith) f m
+
+  -- by the first that is at fault by itself, where those before it may stand
+  ends : (end : ℕ) → end ≤ n → ((j : ℕ) → j < end → faultyAt kind level s o j ≡ false) → (end < n → faultyAt kind level s o end ≡ true) →
+      ((j : ℕ) → j < end → mayRepeat kind s o j ≡ true) → endedAt kind level s o n end ≡ entriesAt kind level s o n
+  ends end h f g m = by (ltb end n) refl
+    where
+      at-end : (b : Bool) → reservedZero kind s (entryPlace kind o end) ≡ b → end < n → refused (cond b 14 5) alone ≡ entriesAt kind level s o n
+      at-end true q l =
+          stop end 14 l f m (λ rest. passed _ _ _ _ q ∙ failed _ _ _ _ (sym (placed-is end) ∙ one-fails _ _ (g l) (reserved-is end ∙ q)))
+      at-end false q l = stop end 5 l f m (λ rest. failed _ _ _ _ q)
+
+      by : (b : Bool) → ltb end n ≡ b → cond b (refused (cond (reservedZero kind s (entryPlace kind o end)) 14 5) alone) (given (directoryOf o level n)) ≡ entriesAt kind level s o n
+      by true q = at-end (reservedZero kind s (entryPlace kind o end)) refl (ltb-true _ _ q)
+      by false q =
+          sym (scan-end (entryStep kind level s o) (λ _. given (directoryOf o level n)) n end (ltb-false end n q)) ∙ reach end h f m
+
+  -- in a directory that may repeat
+  pub ends-any : (end : ℕ) → Found (faultyAt kind level s o) n end → kind .repeats ≡ true → endedAt kind level s o n end ≡ entriesAt kind level s o n
+  ends-any end f r = ends end (f .within) (f .before) (f .here) (λ j l. may-any kind s o j r)
+
+  -- none before it repeats
+  pub ends-first : (end : ℕ) → Found (faultyAt kind level s o) n end → someBelow (badAt kind level s o) end ≡ false → endedAt kind level s o n end ≡ entriesAt kind level s o n
+  ends-first end f e = ends end (f .within) (f .before) (f .here) (λ j l. may-first kind s o j (or-false (faultyAt kind level s o j) (repeatsEarlier kind s o j) (none-below (badAt kind level s o) end e j l) .1))
+
+  -- none is at fault
+  pub ends-good : someBelow (badAt kind level s o) n ≡ false → endedAt kind level s o n n ≡ entriesAt kind level s o n
+  ends-good e =
+      let good : (j : ℕ) → j < n → (faultyAt kind level s o j ≡ false) × (repeatsEarlier kind s o j ≡ false) = λ j l. or-false (faultyAt kind level s o j) (repeatsEarlier kind s o j) (none-below (badAt kind level s o) n e j l) in
+      ends n (omega arith) (λ j l. good j l .0) (λ l. absurd (let z : ⊥ = omega arith in z)) (λ j l. may-first kind s o j (good j l .1))
+
+  -- one before the first that is at fault by itself repeats
+  pub ends-repeated : (end : ℕ) → end ≤ n → ((j : ℕ) → j < end → faultyAt kind level s o j ≡ false) → kind .repeats ≡ false → someBelow (badAt kind level s o) end ≡ true →
+      refused 18 alone ≡ entriesAt kind level s o n
+  ends-repeated end h f r e = by (some-lowest (badAt kind level s o) end e)
+    where
+      apart-bad : (a b : Bool) → a ≡ false → (a || b) ≡ true → b ≡ true
+      apart-bad true b q t = apart refl q
+      apart-bad false b q t = t
+
+      clean : (a b : Bool) → ((a || b) ≡ true → ⊥) → b ≡ false
+      clean true b q = absurd (q refl)
+      clean false true q = absurd (q refl)
+      clean false false q = refl
+
+      by : (k : ℕ) × Lowest (λ j. badAt kind level s o j ≡ true) end k → refused 18 alone ≡ entriesAt kind level s o n
+      by (k, l) =
+          let i = l .inside in
+          stop k 18 (omega arith) (λ j a. f j (omega arith)) (λ j a. may-first kind s o j (clean (faultyAt kind level s o j) (repeatsEarlier kind s o j) (l .earlier j a)))
+          (repeated k (f k i) (may-not kind s o k r (apart-bad (faultyAt kind level s o k) (repeatsEarlier kind s o k) (f k i) (l .here))))

@@ -1,0 +1,74 @@
+-- Two images that agree on a directory's bytes have the same replies of its entries. Assumes nothing.
+use mathlib.Core.Path.{_≡_, sym, ap, ap₂, _∙_}
+use mathlib.Core.List.{List}
+use Prim.Native.Nat.{ℕ, _+_, _*_, _-_, _<_, _≤_, min}
+use native.Mathlib.Nat.{mul-le-mul-right, add-mul}
+use native.Mathlib.Omega.{arith}
+use borrow.Author.Tests.{ltb-true}
+use lib.ListN.{length, getD, take, drop, length-take, length-drop}
+use lib.Seq.{ext-getD, getD-take, getD-drop}
+use lib.Dec.{ltb, eqb}
+use mathlib.Core.Bool.{Bool, not, cond, _&&_, _||_}
+use Rattle.le.specs.Le.{leAt}
+use Rattle.le.proofs.Laws.{le-same}
+use Rattle.le.proofs.Part.{part-same}
+use Rattle.reply.specs.Reply.{Reply, given, refused, alone, check, then}
+use Rattle.reply.proofs.ReplyLaws.{check-same, then-same}
+use Rattle.reply.proofs.ScanLaws.{scan-same}
+use Rattle.directory.specs.Directory.{totalAt, entryPlace, sameEntry, mayRepeat, entryStep, directoryOf, entriesAt, directoryAt, directoryByCookie}
+use Rattle.entries.specs.Entry.{fieldsAt, entryOf, entryIn, leadStep, leadIn, findStep, findIn, matchOf, foundAt, nowhere}
+use Rattle.entries.specs.Part.{within, leadsTo, rangedAt, partOf, partIn}
+use Rattle.directory.specs.Independent.{Agree, endOf}
+use Rattle.entries.specs.Independent.{EntriesIndependence}
+use Rattle.reply.proofs.SomeLaws.{some-same}
+use Rattle.directory.specs.declared.Kind.{Kind}
+use Rattle.directory.specs.declared.Directory.{Directory}
+use Rattle.entries.specs.declared.Entry.{Entry}
+use Rattle.entries.specs.declared.Part.{Part}
+use Rattle.directory.proofs.Independent.{first, second, number}
+
+module _ (kind : Kind) (s t : List ℕ) (o n : ℕ) (wide : 16 ≤ kind .entry) (agree : Agree s t o (entryPlace kind o n)) where
+  fields-same : (i : ℕ) → i < n → fieldsAt s (entryPlace kind o i) ≡ fieldsAt t (entryPlace kind o i)
+  fields-same i h =
+      rw (first kind s t o n wide agree i h, second kind s t o n wide agree i h, number kind s t o n wide agree i h 4 4 (omega arith), number kind s t o n wide agree i h 8 8 (omega arith))
+
+-- of what a location leads to only the image's length matters
+module _ (window : ℕ) (s t : List ℕ) (long : length s ≡ length t) where
+  within-same : (x : ℕ) → within s x ≡ within t x
+  unfolding within
+  within-same x = rw long
+
+  pub leads-same : (o : ℕ) (e : Entry) → leadsTo window s o e ≡ leadsTo window t o e
+  unfolding leadsTo
+  leads-same o e = simp within-same
+
+part-of-same : (kind : Kind) (window : ℕ) (s t : List ℕ) → length s ≡ length t → (o : ℕ) (e : Entry) → partOf kind window s o e ≡ partOf kind window t o e
+unfolding partOf rangedAt
+part-of-same kind window s t long o e =
+    rw (leads-same window s t long o e) (ap (λ (r : Reply Part). check (not (eqb (e .class) (kind .value))) 17 alone r) (then-same (leadsTo window t o e) (rangedAt s (e .size)) (rangedAt t (e .size)) (λ p q. rw long)))
+
+module _ (kind : Kind) (s t : List ℕ) (d : Directory) (wide : 16 ≤ kind .entry) (agree : Agree s t (d .place .0) (endOf kind d)) where
+  entry-of-same : (i : ℕ) → i < d .total → entryOf kind s d i ≡ entryOf kind t d i
+  entry-of-same = fields-same kind s t (d .place .0) (d .total) wide agree
+
+  pub entry-same : (i : ℕ) → entryIn kind s d i ≡ entryIn kind t d i
+  entry-same i = check-same (ltb i (d .total)) _ _ _ _ (λ b. ap given (entry-of-same i (ltb-true _ _ b)))
+
+  pub lead-same : leadIn kind s d ≡ leadIn kind t d
+  lead-same = scan-same (leadStep kind s d) (leadStep kind t d) (λ _. refused 8 alone) (d .total) 0 (λ j a b rest. ap (λ (e : Entry). cond (eqb (e .class) (kind .lead)) (given e) rest) (entry-of-same j (omega arith)))
+
+  pub lookup-same : (type sub : ℕ) → findIn kind s d type sub ≡ findIn kind t d type sub
+  lookup-same type sub = scan-same (findStep kind s d type sub) (findStep kind t d type sub) nowhere (d .total) 0 (λ j a b rest. ap (λ (e : Entry). cond (matchOf e type sub) (foundAt j) rest) (entry-of-same j (omega arith)))
+
+  pub part-in-same : (window i : ℕ) → partIn kind window s d i ≡ partIn kind window t d i
+  part-in-same window i =
+      then-same (entryIn kind s d i) (partOf kind window s (d .place .0)) (partOf kind window t (d .place .0)) (λ e q. part-of-same kind window s t (agree .long) (d .place .0) e)
+      ∙ ap (λ (r : Reply Entry). then r (partOf kind window t (d .place .0))) (entry-same i)
+
+pub entries-independence : EntriesIndependence
+entries-independence = record {
+  entry = λ kind s t d i w a. entry-same kind s t d w a i;
+  lead = lead-same;
+  lookup = λ kind s t d type sub w a. lookup-same kind s t d w a type sub;
+  part = λ kind window s t d i w a. part-in-same kind s t d w a window i;
+}

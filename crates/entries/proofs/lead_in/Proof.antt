@@ -1,0 +1,73 @@
+use mathlib.Core.Path.{_≡_, sym, ap, _∙_}
+use mathlib.Core.Bool.{Bool, cond}
+use Prim.Native.Nat.{_-_, _≤_}
+use native.Mathlib.Omega.{arith}
+use borrow.Author.Needs.{needs}
+use borrow.Author.Tests.{eq-eqb, ne-eqb}
+use denote.Ref.{now}
+use Rattle.reply.specs.Reply.{given, refused, alone}
+use Rattle.reply.specs.Scan.{scan}
+use Rattle.reply.proofs.ScanLaws.{scan-start, scan-end, scan-stop, scan-pass}
+use Rattle.entries.specs.Entry.{entryOf, leadStep, leadIn}
+use Rattle.entries.proofs.lead_in.Statement.{statement}
+use Rattle.entries.proofs.lead_in.Tie as tie
+
+abbrev Inv-loop : tie.InvT-loop
+Inv-loop image kind d n i₀ i = (i ≤ n) × (scan (leadStep kind image d) (λ _. refused 8 alone) (n - i) i ≡ leadIn kind image d)
+
+abbrev μ-loop : tie.MeasureT-loop
+μ-loop image kind d n i₀ i = n - i
+
+loop-holds : tie.Need-loop-holds Inv-loop μ-loop
+loop-holds c =
+    let a = c .before .args in
+    (omega arith, scan-start (leadStep (a .kind) (now (a .image)) (a .d)) (λ _. refused 8 alone) (a .d .total))
+
+class-of-requires : tie.Need-class-of-requires Inv-loop μ-loop
+class-of-requires c κs = search needs
+
+entry-of-requires : tie.Need-entry-of-requires Inv-loop μ-loop
+entry-of-requires c κs = search needs
+
+returns : tie.Need-returns Inv-loop μ-loop
+returns c =
+    let l = c .before .before .before .before .before in
+    let a = l .before .before .args in
+    let i = l .loop .i in
+    let hit = eq-eqb (entryOf (a .kind) (now (a .image)) (a .d) i .class) (a .kind .lead) (sym (c .before .before .before .class-of .ensures) ∙ c .before .if1 .taken) in
+    sym (scan-stop (leadStep (a .kind) (now (a .image)) (a .d)) (λ _. refused 8 alone) (a .d .total) i (given (c .entry-of .result)) (omega arith) (λ rest. ap (λ (b : Bool). cond b (given (entryOf (a .kind) (now (a .image)) (a .d) i)) rest) hit ∙ ap given (sym (c .entry-of .ensures)))) ∙ l .loop .inv .1
+
+add-i : tie.Need-add-i Inv-loop μ-loop
+add-i c = search needs
+
+loop-less : tie.Need-loop-less Inv-loop μ-loop
+loop-less c = search needs
+
+loop-again : tie.Need-loop-again Inv-loop μ-loop
+loop-again c =
+    let l = c .before .before .before .before in
+    let a = l .before .before .args in
+    let i = l .loop .i in
+    let miss = ne-eqb (entryOf (a .kind) (now (a .image)) (a .d) i .class) (a .kind .lead) (λ q. c .if1 .left (c .before .before .class-of .ensures ∙ q)) in
+    (omega arith, sym (scan-pass (leadStep (a .kind) (now (a .image)) (a .d)) (λ _. refused 8 alone) (a .d .total) i (omega arith) (λ rest. ap (λ (b : Bool). cond b (given (entryOf (a .kind) (now (a .image)) (a .d) i)) rest) miss)) ∙ l .loop .inv .1)
+
+returns-2 : tie.Need-returns-2 Inv-loop μ-loop
+returns-2 c =
+    let l = c .before in
+    let a = l .before .before .args in
+    sym (scan-end (leadStep (a .kind) (now (a .image)) (a .d)) (λ _. refused 8 alone) (a .d .total) (l .loop .i) (omega arith)) ∙ l .loop .inv .1
+
+pub lead-in-spec : {M : Type 1} → statement M
+lead-in-spec =
+    tie.close
+    (tie.spec
+    Inv-loop
+    μ-loop
+    loop-holds
+    class-of-requires
+    entry-of-requires
+    returns
+    add-i
+    loop-less
+    loop-again
+    returns-2)
