@@ -26,6 +26,19 @@ fn described() -> Directory {
     Directory::of(1, entries)
 }
 
+/// The draft is refused with this message, and nothing is written: no new file, nor over one that is there.
+fn refuses_the_draft(place: &Workplace, draft: &str, expected: &str) {
+    place.put("bad.txt", draft);
+    place
+        .tool(&["build", "bad.txt", "new.dir"])
+        .expect(1, expected);
+    place
+        .tool(&["build", "--force", "bad.txt", "kept.dir"])
+        .expect(1, expected);
+    assert_eq!(place.get("kept.dir"), b"kept");
+    assert_eq!(place.names(), ["bad.txt", "kept.dir"]);
+}
+
 #[test]
 fn a_directory_is_written_with_its_checksum() {
     let place = Workplace::new("build");
@@ -143,20 +156,12 @@ fn an_entry_that_repeats_is_told_with_both_lines() {
             "type 0x01 and subprogram 0x00",
         ),
     ] {
-        place.put("bad.txt", text);
         let expected = format!(
             "\"bad.txt\", line {line}: refused 18: entry repeats an earlier one; line {earlier} has {pair} already, so leave \
              one of the two lines out, or give one another SUB; nothing is written\n"
         );
-        place
-            .tool(&["build", "bad.txt", "new.dir"])
-            .expect(1, &expected);
-        place
-            .tool(&["build", "--force", "bad.txt", "kept.dir"])
-            .expect(1, &expected);
+        refuses_the_draft(&place, text, &expected);
     }
-    assert_eq!(place.get("kept.dir"), b"kept");
-    assert_eq!(place.names(), ["bad.txt", "kept.dir"]);
 }
 
 #[test]
@@ -178,17 +183,9 @@ fn what_the_library_refuses_is_told_with_its_line() {
         ("level 1\n1 0 0 0 3\n1 0 0 0 4\n", 3, value),
         ("level 2\n64 0 0 0 0\n64 0 0 0 0\n", 2, misplaced),
     ] {
-        place.put("bad.txt", text);
         let expected = format!("\"bad.txt\", line {line}: {told}; nothing is written\n");
-        place
-            .tool(&["build", "bad.txt", "new.dir"])
-            .expect(1, &expected);
-        place
-            .tool(&["build", "--force", "bad.txt", "kept.dir"])
-            .expect(1, &expected);
+        refuses_the_draft(&place, text, &expected);
     }
-    assert_eq!(place.get("kept.dir"), b"kept");
-    assert_eq!(place.names(), ["bad.txt", "kept.dir"]);
 }
 
 #[test]
