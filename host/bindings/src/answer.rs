@@ -15,7 +15,53 @@ pub struct Refusal {
     pub tested: Option<u64>,
 }
 
+/// The numbers of document 01, by the names that the library's crate `reply` has for them.
 impl Refusal {
+    /// Lent bytes too short.
+    pub const SHORT: u64 = 1;
+    /// Wrong signature, cookie or footer GUID, or no EFS.
+    pub const SIGNATURE: u64 = 2;
+    /// A length, total or count outside its limits.
+    pub const LIMITS: u64 = 3;
+    /// The checksum.
+    pub const CHECKSUM: u64 = 4;
+    /// Reserved bits set, or a field's value not allowed.
+    pub const FIELD: u64 = 5;
+    /// A structure or GUID entry of wrong type or length.
+    pub const STRUCTURE: u64 = 6;
+    /// An address or register outside the image or space.
+    pub const OUTSIDE: u64 = 7;
+    /// No such entry, pointer or outstanding post.
+    pub const ABSENT: u64 = 8;
+    /// A caller, command or level number out of range.
+    pub const RANGE: u64 = 9;
+    /// The caller already has a post outstanding.
+    pub const OUTSTANDING: u64 = 10;
+    /// The answer is not there yet.
+    pub const EARLY: u64 = 11;
+    /// The lent buffer has no room.
+    pub const ROOM: u64 = 12;
+    /// Bytes to be written over are not zero.
+    pub const WRITTEN: u64 = 13;
+    /// Type 0x40 in level two.
+    pub const MISPLACED: u64 = 14;
+    /// The flash image is empty or above the longest.
+    pub const IMAGE: u64 = 15;
+    /// Address mode 3.
+    pub const MODE: u64 = 16;
+    /// The entry holds a value.
+    pub const VALUE: u64 = 17;
+    /// An entry repeats an earlier type and subprogram.
+    pub const REPEATED: u64 = 18;
+}
+
+impl Refusal {
+    /// Whether it is the refusal of this number.
+    #[inline]
+    pub fn is(&self, number: u64) -> bool {
+        self.number == number
+    }
+
     /// A refusal that is its number alone.
     #[inline]
     pub fn alone(number: u64) -> Refusal {
@@ -65,7 +111,7 @@ pub(crate) fn lookup_of<T, const ROOM: usize>(
     done_by(call(&mut words))
         .map(|()| given(&words))
         .map_err(|refusal| match refusal.number {
-            8 => Refusal {
+            Refusal::ABSENT => Refusal {
                 tested: Some(words[0]),
                 ..refusal
             },
