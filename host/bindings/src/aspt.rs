@@ -4,21 +4,11 @@
 //! revision, creator, creator revision, base and pages; then for each structure its type, ID byte and three register offsets.
 
 use crate::answer::{answer_of, done_by, Answer};
+use crate::exported::exported;
 
-extern "C" {
-    fn kpalumere_aspt_read(
-        bytes: *const u8,
-        bytes_len: usize,
-        words: *mut u64,
-        words_len: usize,
-    ) -> u64;
-
-    fn kpalumere_aspt_write(
-        buf: *mut u8,
-        buf_len: usize,
-        words: *const u64,
-        words_len: usize,
-    ) -> u64;
+exported! {
+    fn kpalumere_aspt_read(bytes: &[u8], words: &mut [u64]) -> u64;
+    fn kpalumere_aspt_write(buffer: &mut [u8], words: &[u64]) -> u64;
 }
 
 /// How many words a table takes, and from which on the structures stand.
@@ -52,13 +42,16 @@ pub struct AsptStructure {
 /// Reads the table in the first 112 bytes.
 #[inline]
 pub fn aspt_read(bytes: &[u8]) -> Answer<AsptTable> {
-    answer_of(|words| read_into(bytes, words), AsptTable::of_words)
+    answer_of(
+        |words| kpalumere_aspt_read(bytes, words),
+        AsptTable::of_words,
+    )
 }
 
 /// Writes a table over the buffer's first 112 bytes.
 #[inline]
 pub fn aspt_write(buffer: &mut [u8], table: &AsptTable) -> Answer<()> {
-    done_by(write_from(buffer, &table.words()))
+    done_by(kpalumere_aspt_write(buffer, &table.words()))
 }
 
 impl AsptTable {
@@ -111,27 +104,6 @@ impl AsptTable {
             }
         }
         words
-    }
-}
-
-// The exported calls, with the words as a caller lends them.
-
-#[inline]
-fn read_into(bytes: &[u8], words: &mut [u64]) -> u64 {
-    // SAFETY: lent slices, as the crate's page says.
-    unsafe { kpalumere_aspt_read(bytes.as_ptr(), bytes.len(), words.as_mut_ptr(), words.len()) }
-}
-
-#[inline]
-fn write_from(buffer: &mut [u8], words: &[u64]) -> u64 {
-    // SAFETY: lent slices, as the crate's page says.
-    unsafe {
-        kpalumere_aspt_write(
-            buffer.as_mut_ptr(),
-            buffer.len(),
-            words.as_ptr(),
-            words.len(),
-        )
     }
 }
 
@@ -229,9 +201,9 @@ mod tests {
         let mut buffer = [0; 112];
         assert_eq!(aspt_write(&mut buffer, &table()), Ok(()));
         let mut words = [7; ALL + 1];
-        assert_eq!(read_into(&buffer, &mut words[..ALL - 1]), 12);
+        assert_eq!(kpalumere_aspt_read(&buffer, &mut words[..ALL - 1]), 12);
         assert_eq!(words, [7; ALL + 1]);
-        assert_eq!(read_into(&buffer, &mut words), 0);
+        assert_eq!(kpalumere_aspt_read(&buffer, &mut words), 0);
         assert_eq!(words[ALL], 7);
     }
 
@@ -240,7 +212,7 @@ mod tests {
         let mut buffer = [0x11; 112];
         let kept = buffer;
         let words = table().words();
-        assert_eq!(write_from(&mut buffer, &words[..ALL - 1]), 1);
+        assert_eq!(kpalumere_aspt_write(&mut buffer, &words[..ALL - 1]), 1);
         for (at, bits) in [
             (0, 48),
             (2, 32),
@@ -252,10 +224,11 @@ mod tests {
         ] {
             let mut wide = words;
             wide[at] |= 1 << bits;
-            assert_eq!(write_from(&mut buffer, &wide), 5, "word {at}");
+            assert_eq!(kpalumere_aspt_write(&mut buffer, &wide), 5, "word {at}");
         }
         assert_eq!(buffer, kept);
-        assert_eq!(write_from(&mut buffer, &[&words[..], &[7]].concat()), 0);
+        let longer = [&words[..], &[7]].concat();
+        assert_eq!(kpalumere_aspt_write(&mut buffer, &longer), 0);
         assert_eq!(aspt_read(&buffer), Ok(table()));
     }
 }

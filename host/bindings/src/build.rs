@@ -1,20 +1,12 @@
 //! A directory in a buffer: started at its beginning, and extended by one entry after another.
 
 use crate::answer::{answer_of, done_by, Answer};
+use crate::exported::exported;
 
-extern "C" {
-    fn kpalumere_start(buf: *mut u8, buf_len: usize, level: u32) -> u64;
-
+exported! {
+    fn kpalumere_start(buffer: &mut [u8], level: u32) -> u64;
     fn kpalumere_extend(
-        buf: *mut u8,
-        buf_len: usize,
-        class: u8,
-        subprogram: u8,
-        size: u32,
-        location: u64,
-        mode: u32,
-        words: *mut u64,
-        words_len: usize,
+        buffer: &mut [u8], class: u8, subprogram: u8, size: u32, location: u64, mode: u32, words: &mut [u64]
     ) -> u64;
 }
 
@@ -32,36 +24,23 @@ pub struct NewEntry {
 /// Writes an empty directory of a level at the buffer's start.
 #[inline]
 pub fn start(buffer: &mut [u8], level: u32) -> Answer<()> {
-    // SAFETY: a lent slice, as the crate's page says.
-    done_by(unsafe { kpalumere_start(buffer.as_mut_ptr(), buffer.len(), level) })
+    done_by(kpalumere_start(buffer, level))
 }
 
 /// Adds an entry to the directory at the buffer's start, and answers the new total.
 #[inline]
 pub fn extend(buffer: &mut [u8], entry: &NewEntry) -> Answer<u64> {
+    let NewEntry {
+        class,
+        subprogram,
+        size,
+        location,
+        mode,
+    } = *entry;
     answer_of(
-        |words: &mut [u64; 1]| extend_into(buffer, entry, words),
-        |words| words[0],
+        |words| kpalumere_extend(buffer, class, subprogram, size, location, mode, words),
+        |&[total]| total,
     )
-}
-
-/// The exported call, with the words as a caller lends them.
-#[inline]
-fn extend_into(buffer: &mut [u8], entry: &NewEntry, words: &mut [u64]) -> u64 {
-    // SAFETY: lent slices, as the crate's page says.
-    unsafe {
-        kpalumere_extend(
-            buffer.as_mut_ptr(),
-            buffer.len(),
-            entry.class,
-            entry.subprogram,
-            entry.size,
-            entry.location,
-            entry.mode,
-            words.as_mut_ptr(),
-            words.len(),
-        )
-    }
 }
 
 #[cfg(test)]
@@ -171,7 +150,8 @@ mod tests {
         let mut buffer = [0; 32];
         assert_eq!(start(&mut buffer, 1), Ok(()));
         let kept = buffer;
-        assert_eq!(extend_into(&mut buffer, &M2, &mut []), 12);
+        let answer = kpalumere_extend(&mut buffer, 1, 0, 0x100, 0x1000, 1, &mut []);
+        assert_eq!(answer, 12);
         assert_eq!(buffer, kept);
     }
 }

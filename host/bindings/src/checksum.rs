@@ -1,32 +1,17 @@
 //! The checksum of document 01: Fletcher's 32-bit sum over lent bytes.
 
 use crate::answer::{answer_of, Answer};
+use crate::exported::exported;
 
-extern "C" {
-    fn kpalumere_checksum(
-        bytes: *const u8,
-        bytes_len: usize,
-        words: *mut u64,
-        words_len: usize,
-    ) -> u64;
-}
-
-/// The exported call, with the words as a caller lends them.
-#[inline]
-fn checksum_into(bytes: &[u8], words: &mut [u64]) -> u64 {
-    // SAFETY: a slice of Rust is aligned, not null and as long as it says, and a shared and a mutable one never
-    // overlap. The library is proved to read and write nothing else.
-    unsafe { kpalumere_checksum(bytes.as_ptr(), bytes.len(), words.as_mut_ptr(), words.len()) }
+exported! {
+    fn kpalumere_checksum(bytes: &[u8], words: &mut [u64]) -> u64;
 }
 
 /// The checksum of the lent bytes, taken as 16-bit words; a last odd byte has no part in it. A directory holds the
 /// checksum of its bytes from 8 on in the four bytes at 4.
 #[inline]
 pub fn checksum(bytes: &[u8]) -> Answer<u64> {
-    answer_of(
-        |words: &mut [u64; 1]| checksum_into(bytes, words),
-        |words| words[0],
-    )
+    answer_of(|words| kpalumere_checksum(bytes, words), |&[sum]| sum)
 }
 
 #[cfg(test)]
@@ -120,13 +105,13 @@ mod tests {
 
     #[test]
     fn without_room_for_the_word_the_answer_is_12() {
-        assert_eq!(checksum_into(&[0; 8], &mut []), 12);
+        assert_eq!(kpalumere_checksum(&[0; 8], &mut []), 12);
     }
 
     #[test]
     fn words_past_the_first_are_kept() {
         let mut words = [7, 8, 9];
-        assert_eq!(checksum_into(&[0; 8], &mut words), 0);
+        assert_eq!(kpalumere_checksum(&[0; 8], &mut words), 0);
         assert_eq!(words, [0xFFFF_FFFF, 8, 9]);
     }
 }

@@ -1,69 +1,17 @@
 //! The flash image: its EFS and directory pointer, its directories of both levels, their entries, where their bytes lie, and the two lookups.
 
 use crate::answer::{answer_of, lookup_of, Answer};
+use crate::exported::exported;
 
-extern "C" {
-    fn kpalumere_efs(image: *const u8, image_len: usize, words: *mut u64, words_len: usize) -> u64;
-
-    fn kpalumere_pointer(
-        image: *const u8,
-        image_len: usize,
-        words: *mut u64,
-        words_len: usize,
-    ) -> u64;
-
-    fn kpalumere_directory(
-        image: *const u8,
-        image_len: usize,
-        level: u32,
-        words: *mut u64,
-        words_len: usize,
-    ) -> u64;
-
-    fn kpalumere_repeated(
-        image: *const u8,
-        image_len: usize,
-        level: u32,
-        words: *mut u64,
-        words_len: usize,
-    ) -> u64;
-
-    fn kpalumere_entry(
-        image: *const u8,
-        image_len: usize,
-        level: u32,
-        index: u64,
-        words: *mut u64,
-        words_len: usize,
-    ) -> u64;
-
-    fn kpalumere_part(
-        image: *const u8,
-        image_len: usize,
-        level: u32,
-        index: u64,
-        words: *mut u64,
-        words_len: usize,
-    ) -> u64;
-
-    fn kpalumere_find(
-        image: *const u8,
-        image_len: usize,
-        level: u32,
-        class: u8,
-        subprogram: u8,
-        words: *mut u64,
-        words_len: usize,
-    ) -> u64;
-
-    fn kpalumere_find_image(
-        image: *const u8,
-        image_len: usize,
-        class: u8,
-        subprogram: u8,
-        words: *mut u64,
-        words_len: usize,
-    ) -> u64;
+exported! {
+    fn kpalumere_efs(image: &[u8], words: &mut [u64]) -> u64;
+    fn kpalumere_pointer(image: &[u8], words: &mut [u64]) -> u64;
+    fn kpalumere_directory(image: &[u8], level: u32, words: &mut [u64]) -> u64;
+    fn kpalumere_repeated(image: &[u8], level: u32, words: &mut [u64]) -> u64;
+    fn kpalumere_entry(image: &[u8], level: u32, index: u64, words: &mut [u64]) -> u64;
+    fn kpalumere_part(image: &[u8], level: u32, index: u64, words: &mut [u64]) -> u64;
+    fn kpalumere_find(image: &[u8], level: u32, class: u8, subprogram: u8, words: &mut [u64]) -> u64;
+    fn kpalumere_find_image(image: &[u8], class: u8, subprogram: u8, words: &mut [u64]) -> u64;
 }
 
 /// The EFS: where in the image it begins, and its two directory pointers as they stand.
@@ -174,7 +122,7 @@ pub struct ImageMatch {
 #[inline]
 pub fn efs(image: &[u8]) -> Answer<Efs> {
     answer_of(
-        |words: &mut [u64; 3]| efs_into(image, words),
+        |words| kpalumere_efs(image, words),
         |&[place, early, late]| Efs { place, early, late },
     )
 }
@@ -183,7 +131,7 @@ pub fn efs(image: &[u8]) -> Answer<Efs> {
 #[inline]
 pub fn pointer(image: &[u8]) -> Answer<Pointer> {
     answer_of(
-        |words: &mut [u64; 3]| pointer_into(image, words),
+        |words| kpalumere_pointer(image, words),
         |&[field, value, place]| Pointer {
             field,
             value,
@@ -196,7 +144,7 @@ pub fn pointer(image: &[u8]) -> Answer<Pointer> {
 #[inline]
 pub fn directory(image: &[u8], level: u32) -> Answer<Directory> {
     answer_of(
-        |words: &mut [u64; 3]| directory_into(image, level, words),
+        |words| kpalumere_directory(image, level, words),
         |&[place, level, total]| Directory {
             place,
             level,
@@ -209,7 +157,7 @@ pub fn directory(image: &[u8], level: u32) -> Answer<Directory> {
 #[inline]
 pub fn repeated(image: &[u8], level: u32) -> Answer<Repeat> {
     answer_of(
-        |words: &mut [u64; 4]| repeated_into(image, level, words),
+        |words| kpalumere_repeated(image, level, words),
         |&[index, earlier, class, subprogram]| Repeat {
             index,
             earlier,
@@ -223,7 +171,7 @@ pub fn repeated(image: &[u8], level: u32) -> Answer<Repeat> {
 #[inline]
 pub fn entry(image: &[u8], level: u32, index: usize) -> Answer<Entry> {
     answer_of(
-        |words| entry_into(image, level, index, words),
+        |words| kpalumere_entry(image, level, index as u64, words),
         Entry::of_words,
     )
 }
@@ -232,7 +180,7 @@ pub fn entry(image: &[u8], level: u32, index: usize) -> Answer<Entry> {
 #[inline]
 pub fn part(image: &[u8], level: u32, index: usize) -> Answer<Part> {
     answer_of(
-        |words| part_into(image, level, index, words),
+        |words| kpalumere_part(image, level, index as u64, words),
         Part::of_words,
     )
 }
@@ -242,7 +190,7 @@ pub fn part(image: &[u8], level: u32, index: usize) -> Answer<Part> {
 #[inline]
 pub fn find(image: &[u8], level: u32, class: u8, subprogram: u8) -> Answer<Match> {
     lookup_of(
-        |words: &mut [u64; 2]| find_into(image, level, class, subprogram, words),
+        |words| kpalumere_find(image, level, class, subprogram, words),
         |&[index, tested]| Match { index, tested },
     )
 }
@@ -251,7 +199,7 @@ pub fn find(image: &[u8], level: u32, class: u8, subprogram: u8) -> Answer<Match
 #[inline]
 pub fn find_image(image: &[u8], class: u8, subprogram: u8) -> Answer<ImageMatch> {
     lookup_of(
-        |words: &mut [u64; 4]| find_image_into(image, class, subprogram, words),
+        |words| kpalumere_find_image(image, class, subprogram, words),
         |&[place, level, index, tested]| ImageMatch {
             place,
             level,
@@ -259,109 +207,6 @@ pub fn find_image(image: &[u8], class: u8, subprogram: u8) -> Answer<ImageMatch>
             tested,
         },
     )
-}
-
-// The exported calls, with the words as a caller lends them.
-
-#[inline]
-fn efs_into(image: &[u8], words: &mut [u64]) -> u64 {
-    // SAFETY: lent slices, as the crate's page says.
-    unsafe { kpalumere_efs(image.as_ptr(), image.len(), words.as_mut_ptr(), words.len()) }
-}
-
-#[inline]
-fn pointer_into(image: &[u8], words: &mut [u64]) -> u64 {
-    // SAFETY: lent slices, as the crate's page says.
-    unsafe { kpalumere_pointer(image.as_ptr(), image.len(), words.as_mut_ptr(), words.len()) }
-}
-
-#[inline]
-fn directory_into(image: &[u8], level: u32, words: &mut [u64]) -> u64 {
-    // SAFETY: lent slices, as the crate's page says.
-    unsafe {
-        kpalumere_directory(
-            image.as_ptr(),
-            image.len(),
-            level,
-            words.as_mut_ptr(),
-            words.len(),
-        )
-    }
-}
-
-#[inline]
-fn repeated_into(image: &[u8], level: u32, words: &mut [u64]) -> u64 {
-    // SAFETY: lent slices, as the crate's page says.
-    unsafe {
-        kpalumere_repeated(
-            image.as_ptr(),
-            image.len(),
-            level,
-            words.as_mut_ptr(),
-            words.len(),
-        )
-    }
-}
-
-#[inline]
-fn entry_into(image: &[u8], level: u32, index: usize, words: &mut [u64]) -> u64 {
-    // SAFETY: lent slices, as the crate's page says.
-    unsafe {
-        kpalumere_entry(
-            image.as_ptr(),
-            image.len(),
-            level,
-            index as u64,
-            words.as_mut_ptr(),
-            words.len(),
-        )
-    }
-}
-
-#[inline]
-fn part_into(image: &[u8], level: u32, index: usize, words: &mut [u64]) -> u64 {
-    // SAFETY: lent slices, as the crate's page says.
-    unsafe {
-        kpalumere_part(
-            image.as_ptr(),
-            image.len(),
-            level,
-            index as u64,
-            words.as_mut_ptr(),
-            words.len(),
-        )
-    }
-}
-
-#[inline]
-fn find_into(image: &[u8], level: u32, class: u8, subprogram: u8, words: &mut [u64]) -> u64 {
-    // SAFETY: lent slices, as the crate's page says.
-    unsafe {
-        kpalumere_find(
-            image.as_ptr(),
-            image.len(),
-            level,
-            class,
-            subprogram,
-            words.as_mut_ptr(),
-            words.len(),
-        )
-    }
-}
-
-#[inline]
-fn find_image_into(image: &[u8], class: u8, subprogram: u8, words: &mut [u64]) -> u64 {
-    // SAFETY: lent slices, as the crate's page says.
-    unsafe {
-        kpalumere_find_image(
-            image.as_ptr(),
-            image.len(),
-            class,
-            subprogram,
-            words.as_mut_ptr(),
-            words.len(),
-        )
-    }
 }
 
 #[cfg(test)]
@@ -469,8 +314,8 @@ mod tests {
         assert_eq!(find_image(&image, 0x01, 0), Err(no));
         // What is refused leaves the words as they were.
         let mut words = [7; 5];
-        assert_eq!(find_image_into(&image, 0x01, 0, &mut words), 18);
-        assert_eq!(directory_into(&image, 2, &mut words), 18);
+        assert_eq!(kpalumere_find_image(&image, 0x01, 0, &mut words), 18);
+        assert_eq!(kpalumere_directory(&image, 2, &mut words), 18);
         assert_eq!(words, [7; 5]);
     }
 
@@ -496,7 +341,7 @@ mod tests {
         assert_eq!(repeated(&image, 1), Err(Refusal::alone(8)));
         assert_eq!(repeated(&image, 2), Ok(in_two));
         let mut words = [7; 5];
-        assert_eq!(repeated_into(&image, 2, &mut words), 0);
+        assert_eq!(kpalumere_repeated(&image, 2, &mut words), 0);
         assert_eq!(words, [2, 0, 0x01, 0, 7]);
     }
 
@@ -505,7 +350,7 @@ mod tests {
         let mut words = [7; 4];
         for level in [1, 2] {
             assert_eq!(repeated(&board(), level), Err(Refusal::alone(8)));
-            assert_eq!(repeated_into(&board(), level, &mut words), 8);
+            assert_eq!(kpalumere_repeated(&board(), level, &mut words), 8);
         }
         // Every other refusal is that of the directory.
         let mut damaged = board_that_repeats(1);
@@ -572,28 +417,28 @@ mod tests {
     fn without_room_for_the_words_the_answer_is_12_and_none_is_written() {
         let image = board();
         let mut words = [7; 5];
-        assert_eq!(efs_into(&image, &mut words[..2]), 12);
-        assert_eq!(pointer_into(&image, &mut words[..2]), 12);
-        assert_eq!(directory_into(&image, 1, &mut words[..2]), 12);
+        assert_eq!(kpalumere_efs(&image, &mut words[..2]), 12);
+        assert_eq!(kpalumere_pointer(&image, &mut words[..2]), 12);
+        assert_eq!(kpalumere_directory(&image, 1, &mut words[..2]), 12);
         let repeats = board_that_repeats(1);
-        assert_eq!(repeated_into(&repeats, 1, &mut words[..3]), 12);
-        assert_eq!(entry_into(&image, 1, 0, &mut words[..4]), 12);
-        assert_eq!(part_into(&image, 1, 0, &mut words[..1]), 12);
-        assert_eq!(find_into(&image, 1, 0x40, 0, &mut words[..1]), 12);
-        assert_eq!(find_image_into(&image, 0x40, 0, &mut words[..3]), 12);
+        assert_eq!(kpalumere_repeated(&repeats, 1, &mut words[..3]), 12);
+        assert_eq!(kpalumere_entry(&image, 1, 0, &mut words[..4]), 12);
+        assert_eq!(kpalumere_part(&image, 1, 0, &mut words[..1]), 12);
+        assert_eq!(kpalumere_find(&image, 1, 0x40, 0, &mut words[..1]), 12);
+        assert_eq!(kpalumere_find_image(&image, 0x40, 0, &mut words[..3]), 12);
         assert_eq!(words, [7; 5]);
         // An 8 of a lookup has a count to tell.
-        assert_eq!(find_into(&image, 1, 0x99, 0, &mut []), 12);
-        assert_eq!(find_image_into(&image, 0x99, 0, &mut []), 12);
+        assert_eq!(kpalumere_find(&image, 1, 0x99, 0, &mut []), 12);
+        assert_eq!(kpalumere_find_image(&image, 0x99, 0, &mut []), 12);
     }
 
     #[test]
     fn words_past_the_values_are_kept() {
         let image = board();
         let mut words = [7; 6];
-        assert_eq!(part_into(&image, 1, 0, &mut words), 0);
+        assert_eq!(kpalumere_part(&image, 1, 0, &mut words), 0);
         assert_eq!(words, [0x3000, 0x100, 7, 7, 7, 7]);
-        assert_eq!(find_into(&image, 1, 0x99, 0, &mut words), 8);
+        assert_eq!(kpalumere_find(&image, 1, 0x99, 0, &mut words), 8);
         assert_eq!(words, [3, 0x100, 7, 7, 7, 7]);
     }
 }

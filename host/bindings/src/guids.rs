@@ -1,44 +1,14 @@
 //! The GUID table at the end of a guest firmware image: read, looked up, started and extended.
 
 use crate::answer::{answer_of, done_by, lookup_of, Answer};
+use crate::exported::exported;
 
-extern "C" {
-    fn kpalumere_guids(
-        image: *const u8,
-        image_len: usize,
-        words: *mut u64,
-        words_len: usize,
-    ) -> u64;
-
-    fn kpalumere_guid_find(
-        image: *const u8,
-        image_len: usize,
-        low: u64,
-        high: u64,
-        words: *mut u64,
-        words_len: usize,
-    ) -> u64;
-
-    fn kpalumere_guid_entry(
-        image: *const u8,
-        image_len: usize,
-        index: usize,
-        words: *mut u64,
-        words_len: usize,
-    ) -> u64;
-
-    fn kpalumere_guid_start(buf: *mut u8, buf_len: usize) -> u64;
-
-    fn kpalumere_guid_extend(
-        buf: *mut u8,
-        buf_len: usize,
-        low: u64,
-        high: u64,
-        data: *const u8,
-        data_len: usize,
-        words: *mut u64,
-        words_len: usize,
-    ) -> u64;
+exported! {
+    fn kpalumere_guids(image: &[u8], words: &mut [u64]) -> u64;
+    fn kpalumere_guid_find(image: &[u8], low: u64, high: u64, words: &mut [u64]) -> u64;
+    fn kpalumere_guid_entry(image: &[u8], index: usize, words: &mut [u64]) -> u64;
+    fn kpalumere_guid_start(buffer: &mut [u8]) -> u64;
+    fn kpalumere_guid_extend(buffer: &mut [u8], low: u64, high: u64, data: &[u8], words: &mut [u64]) -> u64;
 }
 
 /// A GUID: its sixteen bytes as they lie in memory.
@@ -87,7 +57,7 @@ pub struct GuidMatch {
 #[inline]
 pub fn guids(image: &[u8]) -> Answer<GuidTable> {
     answer_of(
-        |words: &mut [u64; 2]| guids_into(image, words),
+        |words| kpalumere_guids(image, words),
         |&[total, entries]| GuidTable { total, entries },
     )
 }
@@ -95,8 +65,9 @@ pub fn guids(image: &[u8]) -> Answer<GuidTable> {
 /// The entry nearest the footer that has the GUID.
 #[inline]
 pub fn guid_find(image: &[u8], guid: &Guid) -> Answer<GuidMatch> {
+    let (low, high) = guid.halves();
     lookup_of(
-        |words: &mut [u64; 3]| guid_find_into(image, guid, words),
+        |words| kpalumere_guid_find(image, low, high, words),
         |&[place, length, tested]| GuidMatch {
             place,
             length,
@@ -109,7 +80,7 @@ pub fn guid_find(image: &[u8], guid: &Guid) -> Answer<GuidMatch> {
 #[inline]
 pub fn guid_entry(image: &[u8], index: usize) -> Answer<GuidEntry> {
     answer_of(
-        |words: &mut [u64; 4]| guid_entry_into(image, index, words),
+        |words| kpalumere_guid_entry(image, index, words),
         |&[low, high, place, length]| GuidEntry {
             guid: Guid::of_halves(low, high),
             place,
@@ -121,73 +92,17 @@ pub fn guid_entry(image: &[u8], index: usize) -> Answer<GuidEntry> {
 /// Writes a table with no entries at the buffer's end.
 #[inline]
 pub fn guid_start(buffer: &mut [u8]) -> Answer<()> {
-    // SAFETY: a lent slice, as the crate's page says.
-    done_by(unsafe { kpalumere_guid_start(buffer.as_mut_ptr(), buffer.len()) })
+    done_by(kpalumere_guid_start(buffer))
 }
 
 /// Adds an entry to the table, farthest from the footer, and answers the new total.
 #[inline]
 pub fn guid_extend(buffer: &mut [u8], guid: &Guid, data: &[u8]) -> Answer<u64> {
+    let (low, high) = guid.halves();
     answer_of(
-        |words: &mut [u64; 1]| guid_extend_into(buffer, guid, data, words),
-        |words| words[0],
+        |words| kpalumere_guid_extend(buffer, low, high, data, words),
+        |&[total]| total,
     )
-}
-
-// The exported calls, with the words as a caller lends them.
-
-#[inline]
-fn guids_into(image: &[u8], words: &mut [u64]) -> u64 {
-    // SAFETY: lent slices, as the crate's page says.
-    unsafe { kpalumere_guids(image.as_ptr(), image.len(), words.as_mut_ptr(), words.len()) }
-}
-
-#[inline]
-fn guid_find_into(image: &[u8], guid: &Guid, words: &mut [u64]) -> u64 {
-    let (low, high) = guid.halves();
-    // SAFETY: lent slices, as the crate's page says.
-    unsafe {
-        kpalumere_guid_find(
-            image.as_ptr(),
-            image.len(),
-            low,
-            high,
-            words.as_mut_ptr(),
-            words.len(),
-        )
-    }
-}
-
-#[inline]
-fn guid_entry_into(image: &[u8], index: usize, words: &mut [u64]) -> u64 {
-    // SAFETY: lent slices, as the crate's page says.
-    unsafe {
-        kpalumere_guid_entry(
-            image.as_ptr(),
-            image.len(),
-            index,
-            words.as_mut_ptr(),
-            words.len(),
-        )
-    }
-}
-
-#[inline]
-fn guid_extend_into(buffer: &mut [u8], guid: &Guid, data: &[u8], words: &mut [u64]) -> u64 {
-    let (low, high) = guid.halves();
-    // SAFETY: lent slices, as the crate's page says.
-    unsafe {
-        kpalumere_guid_extend(
-            buffer.as_mut_ptr(),
-            buffer.len(),
-            low,
-            high,
-            data.as_ptr(),
-            data.len(),
-            words.as_mut_ptr(),
-            words.len(),
-        )
-    }
 }
 
 #[cfg(test)]
@@ -299,11 +214,13 @@ mod tests {
         let mut image = two_entries();
         let kept = image.clone();
         let mut words = [7; 4];
-        assert_eq!(guids_into(&image, &mut words[..1]), 12);
-        assert_eq!(guid_find_into(&image, &ONE, &mut words[..2]), 12);
-        assert_eq!(guid_find_into(&image, &Guid(FOOTER), &mut []), 12);
-        assert_eq!(guid_entry_into(&image, 0, &mut words[..3]), 12);
-        assert_eq!(guid_extend_into(&mut image, &ONE, b"", &mut []), 12);
+        assert_eq!(kpalumere_guids(&image, &mut words[..1]), 12);
+        let ((low, high), absent) = (ONE.halves(), Guid(FOOTER).halves());
+        assert_eq!(kpalumere_guid_find(&image, low, high, &mut words[..2]), 12);
+        assert_eq!(kpalumere_guid_find(&image, absent.0, absent.1, &mut []), 12);
+        assert_eq!(kpalumere_guid_entry(&image, 0, &mut words[..3]), 12);
+        let answer = kpalumere_guid_extend(&mut image, low, high, b"", &mut []);
+        assert_eq!(answer, 12);
         assert_eq!((words, image), ([7; 4], kept));
     }
 }

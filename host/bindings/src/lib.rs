@@ -4,15 +4,17 @@
 //! (0 where accepted), and the values written into lent words. A caller here sees none of that: a call
 //! takes slices and numbers, and answers what the library gives or the [`Refusal`].
 //!
-//! Why the calls are safe: a slice of Rust is aligned, not null and as long as it says, and a mutable one overlaps no
-//! other. That is all that the library asks of its callers. It is proved to read and write nothing else.
+//! Why the calls are safe stands at the macro that declares them, `exported!`: no other code of this crate is unsafe.
 //!
 //! Each of them is a few instructions around a call, so they are marked `#[inline]`: across crates Rust inlines only what is.
+
+#![deny(unsafe_code)]
 
 mod answer;
 mod aspt;
 mod build;
 mod checksum;
+mod exported;
 mod flash;
 mod guids;
 mod mailbox;

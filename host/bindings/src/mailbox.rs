@@ -11,49 +11,16 @@
 //! - 24 to 87: the IDs 0 to 63: bit 0 a descriptor is saved, bit 1 delivery is on, parts 1, 2, 3 in bits 31:16, 47:32, 63:48
 
 use crate::answer::{answer_of, done_by, Answer};
+use crate::exported::exported;
 use std::ops::Range;
 
-extern "C" {
-    fn kpalumere_mailbox_fresh(words: *mut u64, words_len: usize) -> u64;
-
-    fn kpalumere_post(
-        words: *mut u64,
-        words_len: usize,
-        values: *mut u64,
-        values_len: usize,
-        caller: u32,
-        command: u32,
-        data: u16,
-    ) -> u64;
-
-    fn kpalumere_load(
-        words: *mut u64,
-        words_len: usize,
-        values: *mut u64,
-        values_len: usize,
-    ) -> u64;
-
-    fn kpalumere_turn(
-        words: *mut u64,
-        words_len: usize,
-        values: *mut u64,
-        values_len: usize,
-    ) -> u64;
-
-    fn kpalumere_unload(
-        words: *mut u64,
-        words_len: usize,
-        values: *mut u64,
-        values_len: usize,
-    ) -> u64;
-
-    fn kpalumere_take(
-        words: *mut u64,
-        words_len: usize,
-        values: *mut u64,
-        values_len: usize,
-        caller: u32,
-    ) -> u64;
+exported! {
+    fn kpalumere_mailbox_fresh(words: &mut [u64]) -> u64;
+    fn kpalumere_post(words: &mut [u64], values: &mut [u64], caller: u32, command: u32, data: u16) -> u64;
+    fn kpalumere_load(words: &mut [u64], values: &mut [u64]) -> u64;
+    fn kpalumere_turn(words: &mut [u64], values: &mut [u64]) -> u64;
+    fn kpalumere_unload(words: &mut [u64], values: &mut [u64]) -> u64;
+    fn kpalumere_take(words: &mut [u64], values: &mut [u64], caller: u32) -> u64;
 }
 
 /// How many words a mailbox takes.
@@ -125,7 +92,7 @@ impl Mailbox {
     #[inline]
     pub fn fresh() -> Mailbox {
         let mut words = [0; ALL];
-        let number = fresh_into(&mut words);
+        let number = kpalumere_mailbox_fresh(&mut words);
         assert_eq!(number, 0, "{ALL} words hold a mailbox");
         Mailbox { words }
     }
@@ -149,7 +116,13 @@ impl Mailbox {
     /// A caller's command with its data joins the line.
     #[inline]
     pub fn post(&mut self, caller: u32, command: u32, data: u16) -> Answer<()> {
-        done_by(post_into(&mut self.words, &mut [], caller, command, data))
+        done_by(kpalumere_post(
+            &mut self.words,
+            &mut [],
+            caller,
+            command,
+            data,
+        ))
     }
 
     /// The oldest post enters an idle register. Answers whether it did.
@@ -174,8 +147,8 @@ impl Mailbox {
     #[inline]
     pub fn take(&mut self, caller: u32) -> Answer<u64> {
         answer_of(
-            |values: &mut [u64; 1]| take_into(&mut self.words, values, caller),
-            |values| values[0],
+            |values| kpalumere_take(&mut self.words, values, caller),
+            |&[word]| word,
         )
     }
 
@@ -190,10 +163,10 @@ impl Mailbox {
     }
 
     #[inline]
-    fn step(&mut self, call: Step) -> Answer<bool> {
+    fn step(&mut self, call: impl FnOnce(&mut [u64], &mut [u64]) -> u64) -> Answer<bool> {
         answer_of(
-            |values: &mut [u64; 1]| step_into(call, &mut self.words, values),
-            |values| values[0] == 1,
+            |values| call(&mut self.words, values),
+            |&[acted]| acted == 1,
         )
     }
 }
@@ -232,60 +205,6 @@ fn interrupt_of(word: &u64) -> Interrupt {
     }
 }
 
-/// The form of the calls that take the mailbox alone.
-type Step = unsafe extern "C" fn(*mut u64, usize, *mut u64, usize) -> u64;
-
-// The exported calls, with the words as a caller lends them.
-
-#[inline]
-fn fresh_into(words: &mut [u64]) -> u64 {
-    // SAFETY: a lent slice, as the crate's page says.
-    unsafe { kpalumere_mailbox_fresh(words.as_mut_ptr(), words.len()) }
-}
-
-#[inline]
-fn post_into(words: &mut [u64], values: &mut [u64], caller: u32, command: u32, data: u16) -> u64 {
-    // SAFETY: lent slices, as the crate's page says.
-    unsafe {
-        kpalumere_post(
-            words.as_mut_ptr(),
-            words.len(),
-            values.as_mut_ptr(),
-            values.len(),
-            caller,
-            command,
-            data,
-        )
-    }
-}
-
-#[inline]
-fn step_into(call: Step, words: &mut [u64], values: &mut [u64]) -> u64 {
-    // SAFETY: `call` is one of the exported calls; lent slices, as the crate's page says.
-    unsafe {
-        call(
-            words.as_mut_ptr(),
-            words.len(),
-            values.as_mut_ptr(),
-            values.len(),
-        )
-    }
-}
-
-#[inline]
-fn take_into(words: &mut [u64], values: &mut [u64], caller: u32) -> u64 {
-    // SAFETY: lent slices, as the crate's page says.
-    unsafe {
-        kpalumere_take(
-            words.as_mut_ptr(),
-            words.len(),
-            values.as_mut_ptr(),
-            values.len(),
-            caller,
-        )
-    }
-}
-
 #[cfg(test)]
 mod tests {
     use super::*;
@@ -313,9 +232,9 @@ mod tests {
         expected[INTERFACE] = 1;
         assert_eq!(Mailbox::fresh().words, expected);
         assert!(Mailbox::fresh().firmware().interface);
-        assert_eq!(fresh_into(&mut [7; ALL - 1]), 12);
+        assert_eq!(kpalumere_mailbox_fresh(&mut [7; ALL - 1]), 12);
         let mut words = [7; ALL + 1];
-        assert_eq!(fresh_into(&mut words), 0);
+        assert_eq!(kpalumere_mailbox_fresh(&mut words), 0);
         assert_eq!((words[0], words[ALL]), (0, 7));
     }
 
@@ -472,11 +391,11 @@ mod tests {
         let mut words = Mailbox::of(&[], Register::Idle, [Place::Ready(3); 8]).words;
         let kept = words;
         let missing = &mut words[..ALL - 1];
-        assert_eq!(take_into(missing, &mut [0], 0), 5);
-        assert_eq!(take_into(&mut words, &mut [], 0), 12);
-        assert_eq!(step_into(kpalumere_load, &mut words, &mut []), 12);
+        assert_eq!(kpalumere_take(missing, &mut [0], 0), 5);
+        assert_eq!(kpalumere_take(&mut words, &mut [], 0), 12);
+        assert_eq!(kpalumere_load(&mut words, &mut []), 12);
         assert_eq!(words, kept);
         words[REGISTER] = 3;
-        assert_eq!(take_into(&mut words, &mut [0], 0), 5);
+        assert_eq!(kpalumere_take(&mut words, &mut [0], 0), 5);
     }
 }

@@ -1,14 +1,10 @@
 //! The firmware version in the header that a firmware binary begins with.
 
 use crate::answer::{answer_of, Answer};
+use crate::exported::exported;
 
-extern "C" {
-    fn kpalumere_version(
-        bytes: *const u8,
-        bytes_len: usize,
-        words: *mut u64,
-        words_len: usize,
-    ) -> u64;
+exported! {
+    fn kpalumere_version(bytes: &[u8], words: &mut [u64]) -> u64;
 }
 
 /// The version of a firmware binary, by its header. People are shown its bytes from the highest on: 0x00080174 is
@@ -16,16 +12,9 @@ extern "C" {
 #[inline]
 pub fn version(bytes: &[u8]) -> Answer<u64> {
     answer_of(
-        |words: &mut [u64; 1]| version_into(bytes, words),
-        |words| words[0],
+        |words| kpalumere_version(bytes, words),
+        |&[version]| version,
     )
-}
-
-/// The exported call, with the words as a caller lends them.
-#[inline]
-fn version_into(bytes: &[u8], words: &mut [u64]) -> u64 {
-    // SAFETY: lent slices, as the crate's page says.
-    unsafe { kpalumere_version(bytes.as_ptr(), bytes.len(), words.as_mut_ptr(), words.len()) }
 }
 
 #[cfg(test)]
@@ -66,13 +55,13 @@ mod tests {
 
     #[test]
     fn without_room_for_the_word_the_answer_is_12() {
-        assert_eq!(version_into(&binary(256), &mut []), 12);
+        assert_eq!(kpalumere_version(&binary(256), &mut []), 12);
     }
 
     #[test]
     fn words_past_the_first_are_kept() {
         let mut words = [7, 8];
-        assert_eq!(version_into(&binary(256), &mut words), 0);
+        assert_eq!(kpalumere_version(&binary(256), &mut words), 0);
         assert_eq!(words, [0x0008_0174, 8]);
     }
 }

@@ -1,42 +1,21 @@
 //! A view of a directory: a lent image and the place where a directory of it begins, checked again at each call.
 
 use crate::answer::{answer_of, Answer};
+use crate::exported::exported;
 use crate::flash::{Entry, Part};
 
-extern "C" {
-    fn kpalumere_view(
-        image: *const u8,
-        image_len: usize,
-        level: u32,
-        words: *mut u64,
-        words_len: usize,
-    ) -> u64;
-
-    fn kpalumere_view_entry(
-        image: *const u8,
-        image_len: usize,
-        place: usize,
-        index: usize,
-        words: *mut u64,
-        words_len: usize,
-    ) -> u64;
-
-    fn kpalumere_view_part(
-        image: *const u8,
-        image_len: usize,
-        place: usize,
-        index: usize,
-        words: *mut u64,
-        words_len: usize,
-    ) -> u64;
+exported! {
+    fn kpalumere_view(image: &[u8], level: u32, words: &mut [u64]) -> u64;
+    fn kpalumere_view_entry(image: &[u8], place: usize, index: usize, words: &mut [u64]) -> u64;
+    fn kpalumere_view_part(image: &[u8], place: usize, index: usize, words: &mut [u64]) -> u64;
 }
 
 /// The place that a view of the directory of a level holds.
 #[inline]
 pub fn view(image: &[u8], level: u32) -> Answer<u64> {
     answer_of(
-        |words: &mut [u64; 1]| view_into(image, level, words),
-        |words| words[0],
+        |words| kpalumere_view(image, level, words),
+        |&[place]| place,
     )
 }
 
@@ -44,7 +23,7 @@ pub fn view(image: &[u8], level: u32) -> Answer<u64> {
 #[inline]
 pub fn view_entry(image: &[u8], place: usize, index: usize) -> Answer<Entry> {
     answer_of(
-        |words| view_entry_into(image, place, index, words),
+        |words| kpalumere_view_entry(image, place, index, words),
         Entry::of_words,
     )
 }
@@ -53,55 +32,9 @@ pub fn view_entry(image: &[u8], place: usize, index: usize) -> Answer<Entry> {
 #[inline]
 pub fn view_part(image: &[u8], place: usize, index: usize) -> Answer<Part> {
     answer_of(
-        |words| view_part_into(image, place, index, words),
+        |words| kpalumere_view_part(image, place, index, words),
         Part::of_words,
     )
-}
-
-// The exported calls, with the words as a caller lends them.
-
-#[inline]
-fn view_into(image: &[u8], level: u32, words: &mut [u64]) -> u64 {
-    // SAFETY: lent slices, as the crate's page says.
-    unsafe {
-        kpalumere_view(
-            image.as_ptr(),
-            image.len(),
-            level,
-            words.as_mut_ptr(),
-            words.len(),
-        )
-    }
-}
-
-#[inline]
-fn view_entry_into(image: &[u8], place: usize, index: usize, words: &mut [u64]) -> u64 {
-    // SAFETY: lent slices, as the crate's page says.
-    unsafe {
-        kpalumere_view_entry(
-            image.as_ptr(),
-            image.len(),
-            place,
-            index,
-            words.as_mut_ptr(),
-            words.len(),
-        )
-    }
-}
-
-#[inline]
-fn view_part_into(image: &[u8], place: usize, index: usize, words: &mut [u64]) -> u64 {
-    // SAFETY: lent slices, as the crate's page says.
-    unsafe {
-        kpalumere_view_part(
-            image.as_ptr(),
-            image.len(),
-            place,
-            index,
-            words.as_mut_ptr(),
-            words.len(),
-        )
-    }
 }
 
 #[cfg(test)]
@@ -160,9 +93,9 @@ mod tests {
     fn without_room_for_the_words_the_answer_is_12_and_none_is_written() {
         let (image, place) = (board(), LEVEL_ONE as usize);
         let mut words = [7; 5];
-        assert_eq!(view_into(&image, 1, &mut []), 12);
-        assert_eq!(view_entry_into(&image, place, 0, &mut words[..4]), 12);
-        assert_eq!(view_part_into(&image, place, 0, &mut words[..1]), 12);
+        assert_eq!(kpalumere_view(&image, 1, &mut []), 12);
+        assert_eq!(kpalumere_view_entry(&image, place, 0, &mut words[..4]), 12);
+        assert_eq!(kpalumere_view_part(&image, place, 0, &mut words[..1]), 12);
         assert_eq!(words, [7; 5]);
     }
 }
