@@ -131,6 +131,23 @@ mod tests {
         }
     }
 
+    /// The constants that a file declares in lines of their own: each one's name and the number in its value.
+    fn constants_of(file: &str) -> Vec<(&str, String)> {
+        let declared = file.lines().filter_map(|line| {
+            let (name, rest) = line.trim().strip_prefix("pub const ")?.split_once(':')?;
+            let (_, value) = rest.split_once('=')?;
+            Some((name, value.chars().filter(char::is_ascii_digit).collect()))
+        });
+        declared.collect()
+    }
+
+    #[test]
+    fn refusals_have_the_names_and_numbers_of_the_library() {
+        let library = constants_of(include_str!("../../../crates/reply/src/lib.rt"));
+        assert_eq!(library.first(), Some(&("SHORT", "1".to_string())));
+        assert_eq!(constants_of(include_str!("answer.rs")), library);
+    }
+
     #[test]
     fn zero_gives_the_words() {
         let given = |words: &[u64; 2]| words[0] * 10 + words[1];
