@@ -7,6 +7,7 @@
 use crate::programs::{Plain, Program};
 use crate::rows::COMMANDS;
 use crate::samples;
+use bindings::Refusal;
 use std::ffi::c_void;
 use std::ptr;
 
@@ -126,20 +127,31 @@ fn bytes_of<F: Copy>(
     Ok(EMPTY + 8 * (began - lowest))
 }
 
-/// What an exported call takes, given the form and the value of each argument, the number that it must answer, and what the
-/// arguments are. Both calls are made by one piece of code, so that they begin at the same depth.
+/// What an exported call takes, given the type and the value of each argument, the number that it must answer, and what the
+/// arguments are. A slice is lent as a pointer and a length, both of one value. The call and the empty one are made by one piece
+/// of code, so that they begin at the same depth.
 macro_rules! depth_of {
-    ($name:ident($($form:ty: $value:expr),*) = $expected:expr, $given:expr) => {{
+    ($call:ident(
+        $($(&mut [$written:ty])? $(&[$read:ty])? $($number:ident)?: $value:expr),*
+    ) answers $expected:expr, $given:expr) => {{
+        type Call = unsafe extern "C" fn($($(*mut $written, usize)? $(*const $read, usize)? $($number)?),*) -> u64;
         extern "C" {
-            fn $name($(_: $form),*) -> u64;
+            fn $call($($(_: *mut $written, _: usize)? $(_: *const $read, _: usize)? $(_: $number)?),*) -> u64;
         }
-        extern "C" fn empty($(_: $form),*) -> u64 {
+        extern "C" fn empty($($(_: *mut $written, _: usize)? $(_: *const $read, _: usize)? $(_: $number)?),*) -> u64 {
             0
         }
-        let (call, library) = (stringify!($name), $name as unsafe extern "C" fn($($form),*) -> u64);
-        // SAFETY: the arguments are lent slices, each a start and a length, and numbers, as `kpalumere.h` has them.
-        let mut make = |call: unsafe extern "C" fn($($form),*) -> u64| unsafe { call($($value),*) };
-        let bytes = bytes_of(call, [library, empty], &mut make, $expected)?;
+        // SAFETY: the arguments are lent slices and numbers, as `kpalumere.h` has them. What it asks of slices, those of Rust
+        // are; and each that is written is of a value that no other argument is of.
+        let mut make = |call: Call| unsafe {
+            call($(
+                $(<[$written]>::as_mut_ptr(&mut $value), <[$written]>::len(&$value))?
+                $(<[$read]>::as_ptr(&$value), <[$read]>::len(&$value))?
+                $({ let number: $number = $value; number })?
+            ),*)
+        };
+        let call = stringify!($call);
+        let bytes = bytes_of(call, [$call as Call, empty], &mut make, $expected)?;
         Depth { call, given: $given, bytes }
     }};
 }
@@ -189,8 +201,9 @@ fn walks() -> Result<Vec<Depth>, String> {
     let mut depths = Vec::new();
     for (given, leads) in boards {
         let (image, mut words) = (board(leads), [0; 4]);
-        depths.push(depth_of!(kpalumere_find_image(*const u8: image.as_ptr(), usize: image.len(), u8: samples::MISSING, u8: 0,
-            *mut u64: words.as_mut_ptr(), usize: words.len()) = 8, given));
+        let miss = depth_of!(kpalumere_find_image(&[u8]: image, u8: samples::MISSING, u8: 0, &mut [u64]: words)
+            answers Refusal::ABSENT, given);
+        depths.push(miss);
     }
     Ok(depths)
 }
@@ -210,34 +223,22 @@ fn flash() -> Result<Vec<Depth>, String> {
     buffer.extend([0; 16]);
     let mut words = [0; 5];
     Ok(vec![
-        depth_of!(kpalumere_efs(*const u8: image.as_ptr(), usize: image.len(),
-            *mut u64: words.as_mut_ptr(), usize: words.len()) = 0, "an image"),
-        depth_of!(kpalumere_pointer(*const u8: image.as_ptr(), usize: image.len(),
-            *mut u64: words.as_mut_ptr(), usize: words.len()) = 0, "an image"),
-        depth_of!(kpalumere_directory(*const u8: image.as_ptr(), usize: image.len(), u32: 2,
-            *mut u64: words.as_mut_ptr(), usize: words.len()) = 0, given),
-        depth_of!(kpalumere_repeated(*const u8: repeats.as_ptr(), usize: repeats.len(), u32: 2,
-            *mut u64: words.as_mut_ptr(), usize: words.len()) = 0, repeated),
-        depth_of!(kpalumere_entry(*const u8: image.as_ptr(), usize: image.len(), u32: 2, u64: 511,
-            *mut u64: words.as_mut_ptr(), usize: words.len()) = 0, given),
-        depth_of!(kpalumere_part(*const u8: image.as_ptr(), usize: image.len(), u32: 2, u64: 511,
-            *mut u64: words.as_mut_ptr(), usize: words.len()) = 0, given),
-        depth_of!(kpalumere_find(*const u8: image.as_ptr(), usize: image.len(), u32: 2, u8: samples::MISSING, u8: 0,
-            *mut u64: words.as_mut_ptr(), usize: words.len()) = 8, given),
-        depth_of!(kpalumere_view(*const u8: image.as_ptr(), usize: image.len(), u32: 2,
-            *mut u64: words.as_mut_ptr(), usize: words.len()) = 0, given),
-        depth_of!(kpalumere_view_entry(*const u8: image.as_ptr(), usize: image.len(), usize: place, usize: 511,
-            *mut u64: words.as_mut_ptr(), usize: words.len()) = 0, viewed),
-        depth_of!(kpalumere_view_part(*const u8: image.as_ptr(), usize: image.len(), usize: place, usize: 511,
-            *mut u64: words.as_mut_ptr(), usize: words.len()) = 0, viewed),
-        depth_of!(kpalumere_checksum(*const u8: summed.as_ptr(), usize: summed.len(),
-            *mut u64: words.as_mut_ptr(), usize: words.len()) = 0, viewed),
-        depth_of!(kpalumere_version(*const u8: binary.as_ptr(), usize: binary.len(),
-            *mut u64: words.as_mut_ptr(), usize: words.len()) = 0, "a header"),
-        depth_of!(kpalumere_extend(*mut u8: buffer.as_mut_ptr(), usize: buffer.len(), u8: last.class, u8: last.subprogram,
-            u32: last.size, u64: last.location, u32: last.mode, *mut u64: words.as_mut_ptr(), usize: words.len()) = 0,
-            "a directory of 511 entries"),
-        depth_of!(kpalumere_start(*mut u8: buffer.as_mut_ptr(), usize: buffer.len(), u32: 1) = 0, "a buffer"),
+        depth_of!(kpalumere_efs(&[u8]: image, &mut [u64]: words) answers 0, "an image"),
+        depth_of!(kpalumere_pointer(&[u8]: image, &mut [u64]: words) answers 0, "an image"),
+        depth_of!(kpalumere_directory(&[u8]: image, u32: 2, &mut [u64]: words) answers 0, given),
+        depth_of!(kpalumere_repeated(&[u8]: repeats, u32: 2, &mut [u64]: words) answers 0, repeated),
+        depth_of!(kpalumere_entry(&[u8]: image, u32: 2, u64: 511, &mut [u64]: words) answers 0, given),
+        depth_of!(kpalumere_part(&[u8]: image, u32: 2, u64: 511, &mut [u64]: words) answers 0, given),
+        depth_of!(kpalumere_find(&[u8]: image, u32: 2, u8: samples::MISSING, u8: 0, &mut [u64]: words)
+            answers Refusal::ABSENT, given),
+        depth_of!(kpalumere_view(&[u8]: image, u32: 2, &mut [u64]: words) answers 0, given),
+        depth_of!(kpalumere_view_entry(&[u8]: image, usize: place, usize: 511, &mut [u64]: words) answers 0, viewed),
+        depth_of!(kpalumere_view_part(&[u8]: image, usize: place, usize: 511, &mut [u64]: words) answers 0, viewed),
+        depth_of!(kpalumere_checksum(&[u8]: summed, &mut [u64]: words) answers 0, viewed),
+        depth_of!(kpalumere_version(&[u8]: binary, &mut [u64]: words) answers 0, "a header"),
+        depth_of!(kpalumere_extend(&mut [u8]: buffer, u8: last.class, u8: last.subprogram, u32: last.size, u64: last.location,
+            u32: last.mode, &mut [u64]: words) answers 0, "a directory of 511 entries"),
+        depth_of!(kpalumere_start(&mut [u8]: buffer, u32: 1) answers 0, "a buffer"),
     ])
 }
 
@@ -251,20 +252,15 @@ fn tables() -> Result<Vec<Depth>, String> {
     let given = "a table of 512 entries";
     Ok(vec![
         // The words that are read are those that are written.
-        depth_of!(kpalumere_aspt_read(*const u8: bytes.as_ptr(), usize: bytes.len(),
-            *mut u64: words.as_mut_ptr(), usize: words.len()) = 0, "a table"),
-        depth_of!(kpalumere_aspt_write(*mut u8: bytes.as_mut_ptr(), usize: bytes.len(),
-            *const u64: words.as_ptr(), usize: words.len()) = 0, "a table"),
-        depth_of!(kpalumere_guid_start(*mut u8: buffer.as_mut_ptr(), usize: buffer.len()) = 0, "a buffer"),
-        depth_of!(kpalumere_guid_extend(*mut u8: guest.as_mut_ptr(), usize: guest.len(), u64: added as u64,
-            u64: (added >> 64) as u64, *const u8: data.as_ptr(), usize: data.len(), *mut u64: words.as_mut_ptr(),
-            usize: words.len()) = 0, "a table of 511 entries"),
-        depth_of!(kpalumere_guids(*const u8: guest.as_ptr(), usize: guest.len(),
-            *mut u64: words.as_mut_ptr(), usize: words.len()) = 0, given),
-        depth_of!(kpalumere_guid_find(*const u8: guest.as_ptr(), usize: guest.len(), u64: added as u64,
-            u64: (added >> 64) as u64, *mut u64: words.as_mut_ptr(), usize: words.len()) = 0, given),
-        depth_of!(kpalumere_guid_entry(*const u8: guest.as_ptr(), usize: guest.len(), usize: 511,
-            *mut u64: words.as_mut_ptr(), usize: words.len()) = 0, given),
+        depth_of!(kpalumere_aspt_read(&[u8]: bytes, &mut [u64]: words) answers 0, "a table"),
+        depth_of!(kpalumere_aspt_write(&mut [u8]: bytes, &[u64]: words) answers 0, "a table"),
+        depth_of!(kpalumere_guid_start(&mut [u8]: buffer) answers 0, "a buffer"),
+        depth_of!(kpalumere_guid_extend(&mut [u8]: guest, u64: added as u64, u64: (added >> 64) as u64, &[u8]: data,
+            &mut [u64]: words) answers 0, "a table of 511 entries"),
+        depth_of!(kpalumere_guids(&[u8]: guest, &mut [u64]: words) answers 0, given),
+        depth_of!(kpalumere_guid_find(&[u8]: guest, u64: added as u64, u64: (added >> 64) as u64, &mut [u64]: words)
+            answers 0, given),
+        depth_of!(kpalumere_guid_entry(&[u8]: guest, usize: 511, &mut [u64]: words) answers 0, given),
     ])
 }
 
@@ -272,31 +268,30 @@ fn tables() -> Result<Vec<Depth>, String> {
 fn mailbox() -> Result<Vec<Depth>, String> {
     let (mut words, mut values) = ([0; 88], [0; 1]);
     let given = "eight callers at once, the deepest of all commands";
-    let fresh = depth_of!(kpalumere_mailbox_fresh(*mut u64: words.as_mut_ptr(), usize: words.len()) = 0, "88 words");
+    let fresh = depth_of!(kpalumere_mailbox_fresh(&mut [u64]: words) answers 0, "88 words");
     let mut depths = vec![fresh];
     let mut commands = COMMANDS.iter().cycle();
     // Twice eight posts have each of the twelve commands among them.
     for _ in 0..2 {
         for caller in 0..8 {
             let word = *commands.next().expect("the commands go round");
-            let post = depth_of!(kpalumere_post(*mut u64: words.as_mut_ptr(), usize: words.len(), *mut u64: values.as_mut_ptr(),
-                usize: values.len(), u32: caller, u32: word >> 16, u16: word as u16) = 0, given);
+            let post = depth_of!(kpalumere_post(&mut [u64]: words, &mut [u64]: values, u32: caller, u32: word >> 16,
+                u16: word as u16) answers 0, given);
             keep_deepest(&mut depths, post);
         }
         for _ in 0..8 {
-            let load = depth_of!(kpalumere_load(*mut u64: words.as_mut_ptr(), usize: words.len(),
-                *mut u64: values.as_mut_ptr(), usize: values.len()) = 0, given);
+            let load =
+                depth_of!(kpalumere_load(&mut [u64]: words, &mut [u64]: values) answers 0, given);
             keep_deepest(&mut depths, load);
-            let turn = depth_of!(kpalumere_turn(*mut u64: words.as_mut_ptr(), usize: words.len(),
-                *mut u64: values.as_mut_ptr(), usize: values.len()) = 0, given);
+            let turn =
+                depth_of!(kpalumere_turn(&mut [u64]: words, &mut [u64]: values) answers 0, given);
             keep_deepest(&mut depths, turn);
-            let unload = depth_of!(kpalumere_unload(*mut u64: words.as_mut_ptr(), usize: words.len(),
-                *mut u64: values.as_mut_ptr(), usize: values.len()) = 0, given);
+            let unload =
+                depth_of!(kpalumere_unload(&mut [u64]: words, &mut [u64]: values) answers 0, given);
             keep_deepest(&mut depths, unload);
         }
         for caller in 0..8 {
-            let take = depth_of!(kpalumere_take(*mut u64: words.as_mut_ptr(), usize: words.len(),
-                *mut u64: values.as_mut_ptr(), usize: values.len(), u32: caller) = 0, given);
+            let take = depth_of!(kpalumere_take(&mut [u64]: words, &mut [u64]: values, u32: caller) answers 0, given);
             keep_deepest(&mut depths, take);
         }
     }
@@ -314,6 +309,7 @@ fn keep_deepest(depths: &mut Vec<Depth>, depth: Depth) {
 #[cfg(test)]
 mod tests {
     use super::*;
+    use std::collections::BTreeSet;
 
     /// A call that writes a frame of so many words.
     extern "C" fn deep<const WORDS: usize>(number: u64) -> u64 {
@@ -356,5 +352,15 @@ mod tests {
     fn another_answer_than_the_expected_is_told() {
         let told = bytes_of_deep::<100>(8).expect_err("the call answers 7");
         assert!(told.contains("deep answered 7 and not 8"), "{told}");
+    }
+
+    #[test]
+    fn every_call_of_the_header_is_measured() {
+        let depths = measure().expect("every call answers what is expected of it");
+        let measured: BTreeSet<&str> = depths.iter().map(|depth| depth.call).collect();
+        // Nothing else in the header has the type of an answer at a line's start.
+        let declarations = include_str!("../../kpalumere.h").split("\nuint64_t ");
+        let names = declarations.skip(1).map(|rest| rest.split('(').next());
+        assert_eq!(measured, names.flatten().collect());
     }
 }
