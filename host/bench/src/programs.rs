@@ -464,10 +464,10 @@ fn given<T>(number: plain::Number, value: T) -> Answer<T> {
     }
 }
 
-/// The same of a lookup, which with number 8 leaves a count.
+/// The same of a lookup, which leaves a count where nothing was found.
 fn looked_up<T>(number: plain::Number, tested: u64, value: T) -> Answer<T> {
     given(number, value).map_err(|refused| match refused.number {
-        8 => Refusal {
+        Refusal::ABSENT => Refusal {
             tested: Some(tested),
             ..refused
         },

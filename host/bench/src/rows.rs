@@ -433,13 +433,14 @@ mod tests {
         };
         assert_ne!(of(&[1, 2]), of(&[2, 1]));
         assert_ne!(of(&[0]), of(&[0, 0]));
-        let alone = folded::<u64>(&Err(Refusal::alone(8)));
+        let absent = Refusal::alone(Refusal::ABSENT);
         let counted = Refusal {
-            number: 8,
             tested: Some(0),
+            ..absent
         };
+        let alone = folded::<u64>(&Err(absent));
         assert_ne!(alone, folded::<u64>(&Err(counted)));
-        assert_ne!(alone, folded(&Ok(8)));
+        assert_ne!(alone, folded(&Ok(Refusal::ABSENT)));
     }
 
     #[test]
