@@ -120,18 +120,25 @@ check_c() {
     $emulator "$program"
 }
 
-# The archive, the header and the bindings have the same calls.
+# The archive, the header, the bindings and the caller in C have the same calls.
 check_exported_names() { # ARCHIVE
-    local exported declared bound
+    local exported declared bound called
     exported=$("$list_symbols" --defined-only --extern-only "$1" | awk '$3 ~ /^kpalumere_/ { print $3 }' | sort -u)
-    declared=$(grep -oE '\bkpalumere_[a-z0-9_]+\(' kpalumere.h | tr -d '(' | sort -u)
-    bound=$(grep -rhoE '\bfn kpalumere_[a-z0-9_]+\(' bindings/src | sed 's/^fn //' | tr -d '(' | sort -u)
+    declared=$(names_of_calls kpalumere.h)
+    bound=$(grep -rhoE '\bfn kpalumere_[a-z0-9_]+\(' bindings/src | names_of_calls)
+    called=$(names_of_calls c-check/main.c)
     if [ -z "$exported" ]; then echo "the archive $1 exports no call"; return 1; fi
-    if [ "$exported" != "$declared" ] || [ "$exported" != "$bound" ]; then
-        printf 'the calls differ\n-- of the archive:\n%s\n-- of host/kpalumere.h:\n%s\n-- of host/bindings:\n%s\n' "$exported" "$declared" "$bound"
+    if [ "$exported" != "$declared" ] || [ "$exported" != "$bound" ] || [ "$exported" != "$called" ]; then
+        printf 'the calls differ\n-- of the archive:\n%s\n-- of host/kpalumere.h:\n%s\n-- of host/bindings:\n%s\n-- of host/c-check:\n%s\n' \
+            "$exported" "$declared" "$bound" "$called"
         return 1
     fi
-    printf 'the archive, the header and the bindings have the same calls: %s\n' "$(echo "$exported" | tr '\n' ' ')"
+    printf 'the archive, the header, the bindings and the caller in C have the same calls: %s\n' "$(echo "$exported" | tr '\n' ' ')"
+}
+
+# The names in a file, or in what is read, that a parenthesis follows as in a call or its declaration.
+names_of_calls() { # [FILE]
+    grep -hoE '\bkpalumere_[a-z0-9_]+\(' "$@" | tr -d '(' | sort -u
 }
 
 # Random calls, given to the tool and the second program. The seed is printed. Of so many calls more than 50,000 come to the library.
