@@ -89,9 +89,8 @@ uint64_t kpalumere_entry(const uint8_t *image, size_t image_len, uint32_t level,
 /* Where the bytes of an entry of the directory of a level lie, also where there are none of them. The directory is refused,
  * with 18 as with its other numbers, whichever entry is asked for.
  *
- * Answers 0 and words[0] = their place, words[1] = how many they are; 8 where `index` is not below the total; 17 where the
- * entry holds a value; 16 where its address mode is 3; 7 where the bytes do not lie in the image; 12 where words_len is
- * below 2.
+ * Answers 0 and words[0] = their place, words[1] = their length; 8 where `index` is not below the total; 17 where the entry
+ * holds a value; 16 where its address mode is 3; 7 where the bytes do not lie in the image; 12 where words_len is below 2.
  */
 uint64_t kpalumere_part(const uint8_t *image, size_t image_len, uint32_t level, uint64_t index, uint64_t *words,
                         size_t words_len);
@@ -230,7 +229,7 @@ uint64_t kpalumere_guid_find(const uint8_t *image, size_t image_len, uint64_t lo
 /* The entry at an index, counted from the footer.
  *
  * Answers 0 and words[0] and words[1] = the halves of its GUID, words[2] = the place of its data, words[3] = the length of its
- * data; 1, 2, 3 or 6; 8 where there are not so many entries; 12 where words_len is below 4.
+ * data; 1, 2, 3 or 6; 8 where `index` is not below the number of entries; 12 where words_len is below 4.
  */
 uint64_t kpalumere_guid_entry(const uint8_t *image, size_t image_len, size_t index, uint64_t *words, size_t words_len);
 
