@@ -189,7 +189,7 @@ tool_folder=$root/host/target/kpalumere
 tool=$tool_folder/kpalumere
 
 tool_sources() {
-    echo "$machine $(sources_of crates crates.txt host/Cargo.toml host/setup.sh host/bindings host/tool)"
+    echo "$machine $(sources_of crates crates.txt host/Cargo.toml host/setup.sh host/bindings host/tool/Cargo.toml host/tool/src)"
 }
 
 tool_is_current() {

@@ -77,9 +77,10 @@ expect 'it may be started through a link' grep -qE '^kpalumere [0-9]+\.[0-9]+\.[
 expect 'a reader that closes the pipe is no fault' test "${PIPESTATUS[0]}" -ne 4
 
 # A repository of which nothing is built, where the library cannot be proved.
-mkdir -p broken/host/bindings broken/host/tool broken/crates fake
+mkdir -p broken/host/bindings broken/host/tool/src broken/crates fake
 cp "$script" broken/
 cp "$own/setup.sh" "$own/Cargo.toml" broken/host/
+cp "$own/tool/Cargo.toml" broken/host/tool/
 echo 'kpalumere:' >broken/crates.txt
 printf '#!/bin/sh\necho "rt: kpalumere NOT PROVED"\nexit 1\n' >fake/rt
 chmod +x fake/rt

@@ -1,43 +1,28 @@
 //! The tool that people run: starts the command that the command line names.
+//!
+//! Of the modules below each may import those that stand after it in this list, and none before it; tests/imports.rs holds them
+//! to it.
+//! - `commands`: a module for each command, and the table of them, which this file alone sees
+//! - `shown`: answers as people and programs see them
+//! - `arguments`: the words of the command line and of scripts
+//! - `system`: files, streams, the terminal and the status
 
-mod ask;
-mod aspt;
-mod build;
-mod command_line;
-mod csv;
-mod ending;
-mod entry;
-mod entry_shown;
-mod explain;
-mod extract;
-mod find;
-mod guids;
-mod help;
-mod images;
-mod json;
-mod layout;
-mod mailbox;
-mod names;
-mod new_file;
-mod numbers;
-mod opening;
-mod progress;
-mod refusals;
-mod register;
-mod repeats;
-mod showing;
-mod standard_error;
-mod terminal;
-mod words;
+mod arguments;
+mod commands;
+mod shown;
+mod system;
 
-use ending::Ending;
+use arguments::command_line;
+use commands::COMMANDS;
 use std::process::ExitCode;
+use system::ending::Ending;
+use system::messages::say;
 
 fn main() -> ExitCode {
-    let ending = match command_line::read(std::env::args_os().skip(1)) {
+    let ending = match command_line::read(COMMANDS, std::env::args_os().skip(1)) {
         Ok(job) => job(),
         Err(wrong) => {
-            standard_error::say(&wrong);
+            say(&wrong);
             Ending::WrongWords
         }
     };

@@ -1,0 +1,132 @@
+//! `kpalumere explain`: what a refusal number means, what usually causes it, and what to look at.
+
+use crate::arguments::command::{Command, Job};
+use crate::arguments::numbers;
+use crate::arguments::words::Words;
+use crate::shown::page::folded;
+use crate::shown::refusals::{explained, Explained, REFUSALS};
+use crate::system::output::print;
+use crate::system::terminal;
+use std::ffi::OsString;
+use std::os::unix::ffi::OsStrExt;
+
+pub static COMMAND: Command = Command {
+    name: "explain",
+    words: "[NUMBER]",
+    does: "what a refusal number means, what usually causes it, what to look at",
+    help,
+    read,
+};
+
+/// What `explain --help` prints.
+fn help() -> String {
+    let amount = REFUSALS.len();
+    format!(
+        "\
+kpalumere explain [NUMBER]: what a refusal number means, what usually causes it, and what to look at.
+
+Where the library does not accept an image, a table or a call, it gives one of the {amount} numbers of document 01, and a command
+shows it as 'refused N'. Without NUMBER all of them are listed, a line each.
+
+Try it:
+  kpalumere explain
+  kpalumere explain 4
+
+Status: 0, or 2 where there is no such number.
+"
+    )
+}
+
+/// How wide the lines are where the output is no terminal.
+const USUAL_COLUMNS: usize = 100;
+
+fn read(words: &[OsString]) -> Result<Job, String> {
+    let words = Words::part(COMMAND.name, &[], words)?;
+    words.expect(&["[NUMBER]"])?;
+    let text = match words.others.first() {
+        None => list(),
+        Some(word) => {
+            let number = numbers::number("NUMBER", word.as_bytes(), u64::MAX)
+                .map_err(|wrong| words.wrong(&format!("wants a number, but {wrong}")))?;
+            let known = explained(number).ok_or_else(|| {
+                words.wrong(&format!(
+                    "knows the numbers 1 to {}, and there is no refusal {number}; \
+                     `kpalumere explain` lists them all",
+                    REFUSALS.len()
+                ))
+            })?;
+            page(known, terminal::columns().unwrap_or(USUAL_COLUMNS))
+        }
+    };
+    Ok(Box::new(move || print(&text)))
+}
+
+/// Every number, a line each.
+fn list() -> String {
+    let mut text = String::new();
+    for Explained { number, title, .. } in &REFUSALS {
+        text.push_str(&format!("{number:>4}  {title}\n"));
+    }
+    text + "`kpalumere explain NUMBER` says more on each.\n"
+}
+
+/// All about one number, in lines of at most so many columns.
+fn page(known: &Explained, columns: usize) -> String {
+    let mut text = format!("refused {}: {}\n", known.number, known.title);
+    for (label, words) in [
+        ("It means", known.means),
+        ("Usual causes", known.causes),
+        ("Look at", known.look),
+    ] {
+        text.push_str(&format!("\n{label}:\n"));
+        for line in folded(words, columns.saturating_sub(2)) {
+            text.push_str(&format!("  {line}\n"));
+        }
+    }
+    text
+}
+
+#[cfg(test)]
+mod tests {
+    use super::*;
+
+    #[test]
+    fn the_list_has_each_number_once() {
+        let list = list();
+        assert_eq!(list.lines().count(), 19);
+        for known in &REFUSALS {
+            let line = format!("{:>4}  {}", known.number, known.title);
+            assert!(list.lines().any(|found| found == line), "{line}");
+        }
+    }
+
+    #[test]
+    fn a_page_has_all_words_on_lines_that_fit() {
+        for known in &REFUSALS {
+            for columns in [40, 80, 132] {
+                let page = page(known, columns);
+                let together = page.split_whitespace().collect::<Vec<_>>().join(" ");
+                for text in [known.title, known.means, known.causes, known.look] {
+                    assert!(together.contains(text), "{}: {text}", known.number);
+                }
+                let widest = page.lines().map(|line| line.chars().count()).max();
+                assert!(
+                    widest <= Some(columns.max(60)),
+                    "{} {columns}",
+                    known.number
+                );
+            }
+        }
+    }
+
+    #[test]
+    fn numbers_that_there_are_not_are_told() {
+        for word in ["0", "19", "-1", "four", "", "99999999999999999999"] {
+            let message = match read(&[OsString::from(word)]) {
+                Ok(_) => panic!("{word} is read"),
+                Err(message) => message,
+            };
+            assert!(message.contains("`kpalumere explain --help`"), "{message}");
+        }
+    }
+}

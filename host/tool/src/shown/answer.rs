@@ -1,0 +1,33 @@
+//! How a command that asks about one file shows the answer: in words for people, or with --json for programs.
+
+use crate::arguments::words::{Words, JSON};
+use crate::shown::first_fields::first_fields;
+use crate::shown::json::{Fields, Json};
+use crate::system::ending::Ending;
+use crate::system::files;
+use crate::system::output::print;
+use bindings::Answer;
+
+/// Asks about the bytes of the file that the first word names, and shows the answer. What is given decides how the run
+/// ends; what is refused ends it with that.
+pub fn show<T>(
+    words: &Words,
+    ask: impl FnOnce(&[u8]) -> Answer<T>,
+    for_people: impl FnOnce(&[u8], &Answer<T>) -> String,
+    for_programs: impl FnOnce(&Answer<T>) -> Fields,
+    ending: impl FnOnce(&T) -> Ending,
+) -> Ending {
+    let file = &words.others[0];
+    files::asked(file, |bytes| {
+        let answer = ask(bytes);
+        let text = match words.has(JSON.name) {
+            true => {
+                let mut fields = first_fields(file);
+                fields.extend(for_programs(&answer));
+                format!("{}\n", Json::Object(fields))
+            }
+            false => for_people(bytes, &answer),
+        };
+        print(&text).and(answer.as_ref().map_or(Ending::Refused, ending))
+    })
+}

@@ -1,0 +1,151 @@
+//! An entry of a directory as people and programs are shown it: its fields with their names, and where its bytes lie or why not.
+
+use crate::arguments::wanted_entry::WantedEntry;
+use crate::shown::json::{Fields, Json};
+use crate::shown::names;
+use crate::shown::refusals;
+use crate::system::ending::Ending;
+use bindings::{Answer, Entry, Part};
+
+/// The refusal for bytes of an entry that has none, since it holds a value. That is in order, and no fault of the image.
+const HOLDS_A_VALUE: u64 = 17;
+
+/// What the library answers about one entry.
+pub struct EntryShown {
+    pub entry: Entry,
+    /// Where its bytes lie.
+    pub part: Answer<Part>,
+}
+
+impl EntryShown {
+    /// What the library answers about an entry of an image.
+    pub fn of(image: &[u8], wanted: WantedEntry) -> Answer<EntryShown> {
+        Ok(EntryShown {
+            entry: bindings::entry(image, wanted.level, wanted.index)?,
+            part: bindings::part(image, wanted.level, wanted.index),
+        })
+    }
+
+    fn holds_a_value(&self) -> bool {
+        matches!(self.part, Err(refusal) if refusal.number == HOLDS_A_VALUE)
+    }
+
+    /// How a run ends that was asked for this entry: bytes that are refused count, but a value has none to refuse.
+    pub fn ending(&self) -> Ending {
+        match self.part.is_ok() || self.holds_a_value() {
+            true => Ending::Done,
+            false => Ending::Refused,
+        }
+    }
+
+    /// The lines on the entry, for people.
+    pub fn lines(&self) -> String {
+        let Entry {
+            class,
+            subprogram,
+            size,
+            location,
+            mode,
+        } = self.entry;
+        let location = match self.holds_a_value() {
+            true => format!("  value       {location:#x}\n"),
+            false => {
+                let counted = names::address_mode(mode);
+                format!("  location    {location:#x}, mode {mode}: {counted}\n")
+            }
+        };
+        format!(
+            "  type        {class:#04x}, {}\n  \
+               subprogram  {subprogram:#04x}\n  \
+               size        {size:#x} ({size} bytes)\n\
+             {location}  \
+               bytes       {}\n",
+            names::entry_type_words(class),
+            match self.part {
+                Ok(part) => range(part),
+                Err(refusal) => refusals::told(refusal),
+            }
+        )
+    }
+
+    /// The fields of the entry for programs, with the index that it has in its directory.
+    pub fn fields(&self, index: u64) -> Fields {
+        let EntryShown { entry, part } = self;
+        let name = names::entry_type(entry.class).map(|known| known.name);
+        vec![
+            ("index", Json::Number(index)),
+            ("type", Json::Number(entry.class)),
+            ("name", Json::or_null(name, Json::text)),
+            ("subprogram", Json::Number(entry.subprogram)),
+            ("size", Json::Number(entry.size)),
+            ("mode", Json::Number(entry.mode)),
+            ("location", Json::Text(format!("{:#x}", entry.location))),
+            (
+                "place",
+                Json::or_null(part.ok(), |part| Json::Number(part.place)),
+            ),
+            (
+                "length",
+                Json::or_null(part.ok(), |part| Json::Number(part.length)),
+            ),
+            ("refused", refusals::json(part)),
+        ]
+    }
+}
+
+/// A part of the image in words: its first and its last byte.
+pub fn range(part: Part) -> String {
+    let Part { place, length } = part;
+    match length {
+        0 => format!("none, at {place:#x} of the image"),
+        _ => format!("{place:#x} to {:#x} of the image", place + (length - 1)),
+    }
+}
+
+#[cfg(test)]
+mod tests {
+    use super::*;
+    use bindings::Refusal;
+
+    const ENTRY: Entry = Entry {
+        class: 0x0B,
+        subprogram: 2,
+        size: 0x10,
+        location: 0x1234,
+        mode: 3,
+    };
+
+    fn with(part: Answer<Part>) -> EntryShown {
+        EntryShown { entry: ENTRY, part }
+    }
+
+    #[test]
+    fn bytes_are_shown_from_the_first_to_the_last() {
+        let at = |place, length| range(Part { place, length });
+        assert_eq!(at(0x1000, 0x100), "0x1000 to 0x10ff of the image");
+        assert_eq!(at(0, 1), "0x0 to 0x0 of the image");
+        assert_eq!(at(7, 0), "none, at 0x7 of the image");
+    }
+
+    #[test]
+    fn a_value_is_in_order_and_other_refusals_are_not() {
+        let part = Part {
+            place: 0,
+            length: 0,
+        };
+        assert_eq!(with(Ok(part)).ending(), Ending::Done);
+        let value = with(Err(Refusal::alone(17)));
+        assert_eq!(value.ending(), Ending::Done);
+        assert!(value.lines().contains("\n  value       0x1234\n  bytes "));
+        assert!(!value.lines().contains("mode"), "{}", value.lines());
+        for number in [7, 16] {
+            let refused = with(Err(Refusal::alone(number)));
+            assert_eq!(refused.ending(), Ending::Refused);
+            let told = format!("  bytes       refused {number}: ");
+            assert!(refused.lines().contains(&told), "{}", refused.lines());
+            assert!(refused
+                .lines()
+                .contains("  location    0x1234, mode 3: from "));
+        }
+    }
+}

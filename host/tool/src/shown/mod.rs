@@ -1,0 +1,12 @@
+//! Answers as people and programs see them.
+
+pub mod answer;
+pub mod csv;
+pub mod digits;
+pub mod entry;
+pub mod first_fields;
+pub mod json;
+pub mod names;
+pub mod page;
+pub mod refusals;
+pub mod repeats;

@@ -1,0 +1,237 @@
+//! The refusal numbers of document 01 in words: what each means, what usually causes it, and what to look at.
+
+use crate::shown::json::Json;
+use bindings::{Answer, Refusal};
+
+/// A refusal number in words.
+pub struct Explained {
+    pub number: u64,
+    /// A few words, for a line.
+    pub title: &'static str,
+    pub means: &'static str,
+    pub causes: &'static str,
+    pub look: &'static str,
+}
+
+/// The refusals of document 01; number N stands at N - 1.
+pub static REFUSALS: [Explained; 18] = [
+    Explained {
+        number: 1,
+        title: "too few bytes",
+        means: "What must be read does not end inside the bytes: a directory's header of 16 \
+             bytes or its entries, the 112 bytes of an ASPT, the last 50 bytes of an image with \
+             a GUID table, or the 256 bytes of a firmware header.",
+        causes: "A file that was cut off, a directory so near the image's end that its entries \
+             run out of it, or the wrong file.",
+        look: "The file's length; where the directory begins, and 16 bytes for each of its \
+             entries behind the first 16.",
+    },
+    Explained {
+        number: 2,
+        title: "signature not found",
+        means: "The bytes do not begin with what they must begin with: no embedded firmware \
+             structure lies at any of its six places, a directory lacks the cookie of its level, \
+             an ASPT lacks its four letters, a GUID table its footer, or firmware the mark of \
+             its header.",
+        causes: "A file of another kind, an image that begins at another address than the flash \
+             does, an encrypted or compressed image, or a pointer that leads to something else.",
+        look: "Bytes aa 55 aa 55 at 0xfa0000, 0xf20000, 0xe20000, 0xc20000, 0x820000 or 0x020000 \
+             of the image; where the pointer leads, and the four letters there: $PSP for level \
+             one, $PL2 for level two.",
+    },
+    Explained {
+        number: 3,
+        title: "length or count outside its limits",
+        means: "A number of entries, a length or a total is larger or smaller than the rules \
+             allow: more than 512 entries in a directory, an ASPT that says another length than \
+             112 or another count than 3, a GUID table with a total below 18 or above what lies \
+             before it.",
+        causes: "Bytes that are no such table although their first four fit, or a table that was \
+             damaged or is full.",
+        look: "The total at offset 8 of the directory; length and count of the ASPT; the two \
+             bytes 50 before the end of an image with a GUID table.",
+    },
+    Explained {
+        number: 4,
+        title: "checksum is wrong",
+        means: "The checksum that a table carries is not the one of its bytes.",
+        causes: "A table that was changed without a new checksum, damage, or a maker that sums \
+             in another way: a directory here carries Fletcher's 32-bit sum, and the 112 bytes \
+             of an ASPT sum to 0 modulo 256.",
+        look: "The four bytes at offset 4 of the directory; whether the image was patched by \
+             hand after it was made.",
+    },
+    Explained {
+        number: 5,
+        title: "reserved bits set, or a value that is not allowed",
+        means: "Bits that must be zero are not, or a field holds what it may not hold: an ASPT's \
+             revision, base address or ID byte, a location of 2^62 or more, an address mode \
+             above 3, or a mailbox that breaks its own rules.",
+        causes: "A newer form of the table, which gives these bits a meaning, or damage that the \
+             checksum does not show.",
+        look: "Bytes 2 and 3 of each entry, and bytes 12 to 15 of the directory's header.",
+    },
+    Explained {
+        number: 6,
+        title: "structure or entry of wrong type or length",
+        means: "A structure of the ASPT is not 20 bytes long, or its type is above 2 or stood \
+             before; or an entry of the GUID table is shorter than 18 bytes or longer than what \
+             is left of the table.",
+        causes: "A total that counts more than the entries, as some published tables do, or a \
+             structure of a newer kind.",
+        look: "The lengths of the entries, counted backwards from the footer; the types and \
+             lengths of the three structures.",
+    },
+    Explained {
+        number: 7,
+        title: "address outside the image",
+        means: "An address or a range does not lie in the image: a physical address outside \
+             0xff000000 to 0xffffffff, a pointer that is neither physical nor a flash offset, a \
+             place or an end beyond the image's last byte, or a register outside its space.",
+        causes: "An image that is only a part of the flash, an entry whose bytes lie in another \
+             file, or an address mode that does not fit the location.",
+        look: "The file's length beside location and size of the entry; its address mode; the \
+             pointers at 0x10 and 0x14 of the embedded firmware structure.",
+    },
+    Explained {
+        number: 8,
+        title: "no such entry, pointer or post",
+        means: "What was asked for is not there: an index at or above the total, a type and \
+             subprogram that no entry has, a directory that nothing leads to, or a caller \
+             without a post.",
+        causes: "A question for firmware that this image does not carry, or an image without \
+             level two.",
+        look: "The entries of both directories, as `kpalumere register IMAGE` shows them.",
+    },
+    Explained {
+        number: 9,
+        title: "level, caller or command out of range",
+        means: "A number in the question is one that there is not: a level other than 1 and 2, a \
+             caller above 7, a command above 0x3ff.",
+        causes: "A slip in the question. The bytes were not looked at.",
+        look: "The numbers that were given.",
+    },
+    Explained {
+        number: 10,
+        title: "caller has a post outstanding",
+        means: "A caller of the mailbox posted again before it took the answer to its last post.",
+        causes: "A program that does not wait, or two programs that use the same caller number.",
+        look: "Which callers have posted and not taken, as `kpalumere mailbox` shows them.",
+    },
+    Explained {
+        number: 11,
+        title: "answer is not there yet",
+        means: "A caller asks for a word that has not been unloaded to its place.",
+        causes: "Asking too soon: the post still waits in line, or its answer still stands in \
+             the register.",
+        look: "The loads, turns and unloads that came after the post.",
+    },
+    Explained {
+        number: 12,
+        title: "no room in the buffer",
+        means: "What is to be written does not fit into the buffer that was lent for it. Nothing \
+             was written.",
+        causes: "A buffer without 16 more bytes for an entry, or, for a GUID table, without free \
+             bytes before it.",
+        look: "The length of the buffer or the file.",
+    },
+    Explained {
+        number: 13,
+        title: "bytes to be written over are not zero",
+        means: "A new entry of a GUID table would be written over bytes that hold something. \
+             Nothing was written.",
+        causes: "An image with code or data right before its GUID table.",
+        look: "The bytes before the table: as many as the entry's data and 18 more must be zero.",
+    },
+    Explained {
+        number: 14,
+        title: "pointer to level two inside level two",
+        means: "A level-two directory has an entry of type 0x40, which belongs into level one \
+             alone.",
+        causes: "Level-one entries copied into level two, or a directory with the cookie of the \
+             wrong level.",
+        look: "The types of the level-two directory's entries.",
+    },
+    Explained {
+        number: 15,
+        title: "image empty or too long",
+        means: "A flash image has at least one byte and at most 16,777,216, the size of the \
+             window below 4 GiB.",
+        causes: "An empty file, or the image of a flash of 32 MiB or more.",
+        look: "The file's length. Of a larger flash, give the part of 16 MiB that holds the \
+             firmware.",
+    },
+    Explained {
+        number: 16,
+        title: "address mode 3",
+        means: "The entry counts its location from the start of a partition, and nothing in the \
+             image says where that is.",
+        causes: "An image for a newer family, whose entries are placed so.",
+        look: "The entry's address mode; the location is shown and is not followed.",
+    },
+    Explained {
+        number: 17,
+        title: "the entry holds a value",
+        means: "An entry of type 0x0b has no bytes in the image: its 62-bit location is itself \
+             the value.",
+        causes: "Asking for the bytes of the soft fuse chain.",
+        look: "The location that is shown for the entry: it is the value.",
+    },
+    Explained {
+        number: 18,
+        title: "entry repeats an earlier one",
+        means: "An entry has the type and subprogram of an earlier entry of the same directory, \
+             or one that is to be added has them; then nothing was written. In a PSP directory \
+             a type and subprogram may stand once; level one and level two may share them.",
+        causes: "An entry that was added where the old one was to be replaced, two directories \
+             joined into one, or a maker that writes several instances of a type, which only \
+             BIOS directories may have.",
+        look: "The two entries that `kpalumere register IMAGE` names. The first entry begins at \
+             offset 16 of the directory, each has 16 bytes, and the first two of these are its \
+             type and its subprogram. Leave one of the two entries out, or give it another \
+             subprogram, and build the directory again.",
+    },
+];
+
+/// The words for a number, where document 01 has it.
+pub fn explained(number: u64) -> Option<&'static Explained> {
+    REFUSALS.iter().find(|known| known.number == number)
+}
+
+/// A refusal as every command shows it: `refused 4: checksum is wrong`.
+pub fn told(refusal: Refusal) -> String {
+    let title = explained(refusal.number).map_or("no number of document 01", |known| known.title);
+    format!("refused {}: {title}", refusal.number)
+}
+
+/// Why something was refused, as programs are told it: the number, or null where it was not refused.
+pub fn json<T>(answer: &Answer<T>) -> Json {
+    Json::or_null(answer.as_ref().err(), |refusal| {
+        Json::Number(refusal.number)
+    })
+}
+
+#[cfg(test)]
+mod tests {
+    use super::*;
+
+    #[test]
+    fn every_number_of_document_01_has_its_words() {
+        let numbers: Vec<u64> = REFUSALS.iter().map(|known| known.number).collect();
+        assert_eq!(numbers, (1..=18).collect::<Vec<u64>>());
+        for known in &REFUSALS {
+            assert!(known.title.len() <= 50, "{}", known.number);
+            for text in [known.means, known.causes, known.look] {
+                assert!(text.ends_with('.'), "{}: {text}", known.number);
+            }
+        }
+        assert!(explained(0).is_none() && explained(19).is_none());
+    }
+
+    #[test]
+    fn a_refusal_is_told_with_its_title() {
+        assert_eq!(told(Refusal::alone(4)), "refused 4: checksum is wrong");
+        let unknown = told(Refusal::alone(99));
+        assert_eq!(unknown, "refused 99: no number of document 01");
+    }
+}
