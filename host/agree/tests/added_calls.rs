@@ -5,6 +5,7 @@ use agree::board::{entry, Board, LEVEL_TWO};
 use agree::cases;
 use agree::random::Random;
 use agree::subjects::directory::{tell_apart, Directory, Entry, CLASSES, LEAD, SUBPROGRAMS};
+use bindings::Refusal;
 use std::collections::{BTreeMap, BTreeSet};
 use std::time::{SystemTime, UNIX_EPOCH};
 
@@ -279,7 +280,11 @@ fn both_name_the_first_entry_that_repeats_and_the_first_that_it_repeats() {
             let whence = format!("repeats {pairs:?} in level {level}");
             both_answer(&image, level, Ok(expected.to_vec()), &whence);
             // The other level is good, or is not reached.
-            let other = if level == 1 { refused(18) } else { refused(8) };
+            let other = if level == 1 {
+                refused(Refusal::REPEATED)
+            } else {
+                refused(Refusal::ABSENT)
+            };
             both_answer(&image, 3 - level, other, &whence);
         }
     }
@@ -288,14 +293,19 @@ fn both_name_the_first_entry_that_repeats_and_the_first_that_it_repeats() {
     repeat(&mut board, 2, &[(3, 2)]);
     let image = board.bytes();
     both_answer(&image, 1, Ok(vec![7, 6, 6, 0]), "repeats in both levels");
-    both_answer(&image, 2, refused(18), "repeats in both levels");
+    both_answer(
+        &image,
+        2,
+        refused(Refusal::REPEATED),
+        "repeats in both levels",
+    );
 }
 
 #[test]
 fn both_tell_the_refusal_of_the_directory_where_it_is_not_18() {
     let nothing = board_with_repeats(1, &[]).bytes();
     for level in [1, 2] {
-        both_answer(&nothing, level, refused(8), "nothing repeats");
+        both_answer(&nothing, level, refused(Refusal::ABSENT), "nothing repeats");
         let pairs = [(200, 100)];
         let repeats = |change: &dyn Fn(&mut Directory)| {
             let mut board = board_with_repeats(level, &pairs);
@@ -305,19 +315,35 @@ fn both_tell_the_refusal_of_the_directory_where_it_is_not_18() {
         let named = Ok(vec![200, 100, 0, 2]);
         for (whence, expected, image) in [
             ("nothing else", named.clone(), repeats(&|_| ())),
-            ("checksum", refused(4), repeats(&|one| one.wrong = 1)),
-            ("total", refused(3), repeats(&|one| one.total = 513)),
-            ("cookie", refused(2), repeats(&|one| one.cookie = [0; 4])),
-            ("reserved", refused(5), repeats(&|one| one.reserved = 1)),
+            (
+                "checksum",
+                refused(Refusal::CHECKSUM),
+                repeats(&|one| one.wrong = 1),
+            ),
+            (
+                "total",
+                refused(Refusal::LIMITS),
+                repeats(&|one| one.total = 513),
+            ),
+            (
+                "cookie",
+                refused(Refusal::SIGNATURE),
+                repeats(&|one| one.cookie = [0; 4]),
+            ),
+            (
+                "reserved",
+                refused(Refusal::FIELD),
+                repeats(&|one| one.reserved = 1),
+            ),
             // Entry by entry, and in an entry its reserved bits before what it repeats.
             (
                 "an earlier entry",
-                refused(5),
+                refused(Refusal::FIELD),
                 repeats(&|one| one.entries[199].reserved = 1),
             ),
             (
                 "the entry itself",
-                refused(5),
+                refused(Refusal::FIELD),
                 repeats(&|one| one.entries[200].reserved = 1),
             ),
             (
@@ -333,7 +359,7 @@ fn both_tell_the_refusal_of_the_directory_where_it_is_not_18() {
             one.entries.truncate(200);
             one.total = 200;
         });
-        let expected = refused(8);
+        let expected = refused(Refusal::ABSENT);
         both_answer(&fewer, level, expected, "a total before the repeat");
     }
     let misplaced = |place: usize| {
@@ -341,16 +367,21 @@ fn both_tell_the_refusal_of_the_directory_where_it_is_not_18() {
         board.two.entries[place].class = LEAD;
         board.bytes()
     };
-    both_answer(&misplaced(199), 2, refused(14), "a lead before the repeat");
+    both_answer(
+        &misplaced(199),
+        2,
+        refused(Refusal::MISPLACED),
+        "a lead before the repeat",
+    );
     let named = Ok(vec![200, 100, 0, 2]);
     both_answer(&misplaced(201), 2, named, "a lead behind the repeat");
     let image = board_with_repeats(1, &[(1, 0)]).bytes();
     for level in [0, 3, u32::MAX] {
-        both_answer(&image, level, refused(9), "no such level");
+        both_answer(&image, level, refused(Refusal::RANGE), "no such level");
     }
     for level in [1, 2] {
-        both_answer(&[], level, refused(15), "no bytes");
-        both_answer(&[0], level, refused(2), "no EFS");
+        both_answer(&[], level, refused(Refusal::IMAGE), "no bytes");
+        both_answer(&[0], level, refused(Refusal::SIGNATURE), "no EFS");
     }
 }
 

@@ -303,14 +303,19 @@ fn a_repeated_entry_is_refused_in_directories_of_every_size() {
             let mut entries = good.clone();
             repeat(&mut entries, earlier, later);
             let bytes = samples::directory_bytes(b"$PSP", &entries);
-            all_refuse(&image_of(&bytes), 18);
+            all_refuse(&image_of(&bytes), Refusal::REPEATED);
             // The entry that repeats counts, not the one that it repeats: 5 comes first up to there, and 18 before the 5 of a later
             // one.
             let near = [0, earlier, later - 1, later, later + 1, last];
             for faulty in near.into_iter().filter(|index| *index < amount) {
                 let mut bytes = bytes.clone();
                 set_reserved(&mut bytes, faulty);
-                all_refuse(&image_of(&bytes), if faulty <= later { 5 } else { 18 });
+                let first = if faulty <= later {
+                    Refusal::FIELD
+                } else {
+                    Refusal::REPEATED
+                };
+                all_refuse(&image_of(&bytes), first);
             }
         }
     }
@@ -357,10 +362,10 @@ fn the_two_levels_may_share_a_type_and_subprogram() {
 fn misplaced_entries_are_told_before_repeated_ones() {
     // In level two an entry that leads is misplaced where it stands, whether it repeats or not.
     for (pairs, number) in [
-        ([LEAD, LEAD, 1, 2], 14),
-        ([1, 2, 1, LEAD], 18),
-        ([1, 2, LEAD, 1], 14),
-        ([1, 2, 3, 3], 18),
+        ([LEAD, LEAD, 1, 2], Refusal::MISPLACED),
+        ([1, 2, 1, LEAD], Refusal::REPEATED),
+        ([1, 2, LEAD, 1], Refusal::MISPLACED),
+        ([1, 2, 3, 3], Refusal::REPEATED),
     ] {
         let mut two = samples::mixed_entries(4, 1);
         for (entry, class) in two.iter_mut().zip(pairs) {
@@ -399,7 +404,11 @@ fn extending_by_a_repeated_entry_is_refused_between_14_and_3() {
         };
         let lead = samples::lead();
         // Neither has room, and 512 entries have no number left.
-        let full = if amount == 512 { 3 } else { 12 };
+        let full = if amount == 512 {
+            Refusal::LIMITS
+        } else {
+            Refusal::ROOM
+        };
         extend_gives(&buffer, &new, full);
         for held in [entries[0], entries[amount / 2], entries[amount - 1]] {
             // Other fields have no part in a repeat.
@@ -409,14 +418,14 @@ fn extending_by_a_repeated_entry_is_refused_between_14_and_3() {
                 mode: 3,
                 ..held
             };
-            extend_gives(&buffer, &held, 18);
-            extend_gives(&buffer, &NewEntry { mode: 4, ..held }, 5);
+            extend_gives(&buffer, &held, Refusal::REPEATED);
+            extend_gives(&buffer, &NewEntry { mode: 4, ..held }, Refusal::FIELD);
             let location = 1 << 62;
-            extend_gives(&buffer, &NewEntry { location, ..held }, 5);
+            extend_gives(&buffer, &NewEntry { location, ..held }, Refusal::FIELD);
         }
-        extend_gives(&buffer, &lead, 14);
+        extend_gives(&buffer, &lead, Refusal::MISPLACED);
         buffer.extend([0xEE; 16]);
-        extend_gives(&buffer, &entries[amount / 2], 18);
+        extend_gives(&buffer, &entries[amount / 2], Refusal::REPEATED);
         if amount < 512 {
             let extended = [
                 Library::extend(&mut buffer.clone(), &new),

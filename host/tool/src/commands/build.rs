@@ -7,7 +7,6 @@ use crate::arguments::quoted::quoted;
 use crate::arguments::words::{Words, FORCE};
 use crate::shown::names;
 use crate::shown::refusals;
-use crate::shown::repeats;
 use crate::system::ending::Ending;
 use crate::system::files;
 use crate::system::messages::say;
@@ -125,7 +124,7 @@ fn built(description: &Description) -> Result<Built, (usize, Refusal)> {
 fn refused_words(description: &Description, line: usize, refusal: Refusal) -> String {
     let told = refusals::told(refusal);
     match description.repeated_by(line) {
-        Some((earlier, entry)) if refusal.number == repeats::REPEATED => format!(
+        Some((earlier, entry)) if refusal.is(Refusal::REPEATED) => format!(
             "{told}; line {earlier} has type {:#04x} and subprogram {:#04x} already, so leave one of the two lines out, or \
              give one another SUB",
             entry.class, entry.subprogram

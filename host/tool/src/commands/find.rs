@@ -115,7 +115,7 @@ impl Wanted {
     fn none(self, image: &[u8], tested: u64) -> String {
         let level = self.level.unwrap_or(1);
         match directory(image, level) {
-            Err(refusal) if refusal.number == 8 => {
+            Err(refusal) if refusal.is(Refusal::ABSENT) => {
                 format!(
                     "none ({}; there is no directory of level {level})\n",
                     tested_words(tested)

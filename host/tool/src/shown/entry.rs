@@ -5,10 +5,7 @@ use crate::shown::json::{Fields, Json};
 use crate::shown::names;
 use crate::shown::refusals;
 use crate::system::ending::Ending;
-use bindings::{Answer, Entry, Part};
-
-/// The refusal for bytes of an entry that has none, since it holds a value. That is in order, and no fault of the image.
-const HOLDS_A_VALUE: u64 = 17;
+use bindings::{Answer, Entry, Part, Refusal};
 
 /// What the library answers about one entry.
 pub struct EntryShown {
@@ -26,8 +23,9 @@ impl EntryShown {
         })
     }
 
+    /// Whether the entry has no bytes since it holds a value. That is in order, and no fault of the image.
     fn holds_a_value(&self) -> bool {
-        matches!(self.part, Err(refusal) if refusal.number == HOLDS_A_VALUE)
+        matches!(self.part, Err(refusal) if refusal.is(Refusal::VALUE))
     }
 
     /// How a run ends that was asked for this entry: bytes that are refused count, but a value has none to refuse.
@@ -105,7 +103,6 @@ pub fn range(part: Part) -> String {
 #[cfg(test)]
 mod tests {
     use super::*;
-    use bindings::Refusal;
 
     const ENTRY: Entry = Entry {
         class: 0x0B,
@@ -134,11 +131,11 @@ mod tests {
             length: 0,
         };
         assert_eq!(with(Ok(part)).ending(), Ending::Done);
-        let value = with(Err(Refusal::alone(17)));
+        let value = with(Err(Refusal::alone(Refusal::VALUE)));
         assert_eq!(value.ending(), Ending::Done);
         assert!(value.lines().contains("\n  value       0x1234\n  bytes "));
         assert!(!value.lines().contains("mode"), "{}", value.lines());
-        for number in [7, 16] {
+        for number in [Refusal::OUTSIDE, Refusal::MODE] {
             let refused = with(Err(Refusal::alone(number)));
             assert_eq!(refused.ending(), Ending::Refused);
             let told = format!("  bytes       refused {number}: ");

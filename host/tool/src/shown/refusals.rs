@@ -16,7 +16,7 @@ pub struct Explained {
 /// The refusals of document 01; number N stands at N - 1.
 pub static REFUSALS: [Explained; 18] = [
     Explained {
-        number: 1,
+        number: Refusal::SHORT,
         title: "too few bytes",
         means: "What must be read does not end inside the bytes: a directory's header of 16 \
              bytes or its entries, the 112 bytes of an ASPT, the last 50 bytes of an image with \
@@ -27,7 +27,7 @@ pub static REFUSALS: [Explained; 18] = [
              entries behind the first 16.",
     },
     Explained {
-        number: 2,
+        number: Refusal::SIGNATURE,
         title: "signature not found",
         means: "The bytes do not begin with what they must begin with: no embedded firmware \
              structure lies at any of its six places, a directory lacks the cookie of its level, \
@@ -40,7 +40,7 @@ pub static REFUSALS: [Explained; 18] = [
              one, $PL2 for level two.",
     },
     Explained {
-        number: 3,
+        number: Refusal::LIMITS,
         title: "length or count outside its limits",
         means: "A number of entries, a length or a total is larger or smaller than the rules \
              allow: more than 512 entries in a directory, an ASPT that says another length than \
@@ -52,7 +52,7 @@ pub static REFUSALS: [Explained; 18] = [
              bytes 50 before the end of an image with a GUID table.",
     },
     Explained {
-        number: 4,
+        number: Refusal::CHECKSUM,
         title: "checksum is wrong",
         means: "The checksum that a table carries is not the one of its bytes.",
         causes: "A table that was changed without a new checksum, damage, or a maker that sums \
@@ -62,7 +62,7 @@ pub static REFUSALS: [Explained; 18] = [
              hand after it was made.",
     },
     Explained {
-        number: 5,
+        number: Refusal::FIELD,
         title: "reserved bits set, or a value that is not allowed",
         means: "Bits that must be zero are not, or a field holds what it may not hold: an ASPT's \
              revision, base address or ID byte, a location of 2^62 or more, an address mode \
@@ -72,7 +72,7 @@ pub static REFUSALS: [Explained; 18] = [
         look: "Bytes 2 and 3 of each entry, and bytes 12 to 15 of the directory's header.",
     },
     Explained {
-        number: 6,
+        number: Refusal::STRUCTURE,
         title: "structure or entry of wrong type or length",
         means: "A structure of the ASPT is not 20 bytes long, or its type is above 2 or stood \
              before; or an entry of the GUID table is shorter than 18 bytes or longer than what \
@@ -83,7 +83,7 @@ pub static REFUSALS: [Explained; 18] = [
              lengths of the three structures.",
     },
     Explained {
-        number: 7,
+        number: Refusal::OUTSIDE,
         title: "address outside the image",
         means: "An address or a range does not lie in the image: a physical address outside \
              0xff000000 to 0xffffffff, a pointer that is neither physical nor a flash offset, a \
@@ -94,7 +94,7 @@ pub static REFUSALS: [Explained; 18] = [
              pointers at 0x10 and 0x14 of the embedded firmware structure.",
     },
     Explained {
-        number: 8,
+        number: Refusal::ABSENT,
         title: "no such entry, pointer or post",
         means: "What was asked for is not there: an index at or above the total, a type and \
              subprogram that no entry has, a directory that nothing leads to, or a caller \
@@ -104,7 +104,7 @@ pub static REFUSALS: [Explained; 18] = [
         look: "The entries of both directories, as `kpalumere register IMAGE` shows them.",
     },
     Explained {
-        number: 9,
+        number: Refusal::RANGE,
         title: "level, caller or command out of range",
         means: "A number in the question is one that there is not: a level other than 1 and 2, a \
              caller above 7, a command above 0x3ff.",
@@ -112,14 +112,14 @@ pub static REFUSALS: [Explained; 18] = [
         look: "The numbers that were given.",
     },
     Explained {
-        number: 10,
+        number: Refusal::OUTSTANDING,
         title: "caller has a post outstanding",
         means: "A caller of the mailbox posted again before it took the answer to its last post.",
         causes: "A program that does not wait, or two programs that use the same caller number.",
         look: "Which callers have posted and not taken, as `kpalumere mailbox` shows them.",
     },
     Explained {
-        number: 11,
+        number: Refusal::EARLY,
         title: "answer is not there yet",
         means: "A caller asks for a word that has not been unloaded to its place.",
         causes: "Asking too soon: the post still waits in line, or its answer still stands in \
@@ -127,7 +127,7 @@ pub static REFUSALS: [Explained; 18] = [
         look: "The loads, turns and unloads that came after the post.",
     },
     Explained {
-        number: 12,
+        number: Refusal::ROOM,
         title: "no room in the buffer",
         means: "What is to be written does not fit into the buffer that was lent for it. Nothing \
              was written.",
@@ -136,7 +136,7 @@ pub static REFUSALS: [Explained; 18] = [
         look: "The length of the buffer or the file.",
     },
     Explained {
-        number: 13,
+        number: Refusal::WRITTEN,
         title: "bytes to be written over are not zero",
         means: "A new entry of a GUID table would be written over bytes that hold something. \
              Nothing was written.",
@@ -144,7 +144,7 @@ pub static REFUSALS: [Explained; 18] = [
         look: "The bytes before the table: as many as the entry's data and 18 more must be zero.",
     },
     Explained {
-        number: 14,
+        number: Refusal::MISPLACED,
         title: "pointer to level two inside level two",
         means: "A level-two directory has an entry of type 0x40, which belongs into level one \
              alone.",
@@ -153,7 +153,7 @@ pub static REFUSALS: [Explained; 18] = [
         look: "The types of the level-two directory's entries.",
     },
     Explained {
-        number: 15,
+        number: Refusal::IMAGE,
         title: "image empty or too long",
         means: "A flash image has at least one byte and at most 16,777,216, the size of the \
              window below 4 GiB.",
@@ -162,7 +162,7 @@ pub static REFUSALS: [Explained; 18] = [
              firmware.",
     },
     Explained {
-        number: 16,
+        number: Refusal::MODE,
         title: "address mode 3",
         means: "The entry counts its location from the start of a partition, and nothing in the \
              image says where that is.",
@@ -170,7 +170,7 @@ pub static REFUSALS: [Explained; 18] = [
         look: "The entry's address mode; the location is shown and is not followed.",
     },
     Explained {
-        number: 17,
+        number: Refusal::VALUE,
         title: "the entry holds a value",
         means: "An entry of type 0x0b has no bytes in the image: its 62-bit location is itself \
              the value.",
@@ -178,7 +178,7 @@ pub static REFUSALS: [Explained; 18] = [
         look: "The location that is shown for the entry: it is the value.",
     },
     Explained {
-        number: 18,
+        number: Refusal::REPEATED,
         title: "entry repeats an earlier one",
         means: "An entry has the type and subprogram of an earlier entry of the same directory, \
              or one that is to be added has them; then nothing was written. In a PSP directory \
@@ -230,7 +230,10 @@ mod tests {
 
     #[test]
     fn a_refusal_is_told_with_its_title() {
-        assert_eq!(told(Refusal::alone(4)), "refused 4: checksum is wrong");
+        assert_eq!(
+            told(Refusal::alone(Refusal::CHECKSUM)),
+            "refused 4: checksum is wrong"
+        );
         let unknown = told(Refusal::alone(99));
         assert_eq!(unknown, "refused 99: no number of document 01");
     }

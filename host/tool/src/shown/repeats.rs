@@ -4,14 +4,11 @@ use crate::shown::page::{kept, on_one_line};
 use crate::shown::refusals;
 use bindings::{repeated, Refusal, Repeat};
 
-/// The number by which the library refuses an entry that repeats an earlier one.
-pub const REPEATED: u64 = 18;
-
 /// The entries that repeat in the directory of a level, where it was refused for that. Level two has none to show where level one
 /// was refused before it.
 pub fn in_level(image: &[u8], level: u32, refusal: Option<Refusal>) -> Option<Repeat> {
     match refusal {
-        Some(refusal) if refusal.number == REPEATED => repeated(image, level).ok(),
+        Some(refusal) if refusal.is(Refusal::REPEATED) => repeated(image, level).ok(),
         _ => None,
     }
 }
@@ -64,9 +61,9 @@ mod tests {
 
     #[test]
     fn an_image_in_which_nothing_repeats_is_told_with_the_number_alone() {
-        let refusal = Refusal::alone(15);
+        let refusal = Refusal::alone(Refusal::IMAGE);
         assert_eq!(told(&[], refusal), refusals::told(refusal));
-        let refusal = Refusal::alone(REPEATED);
+        let refusal = Refusal::alone(Refusal::REPEATED);
         assert_eq!(told(&[], refusal), refusals::told(refusal));
     }
 }

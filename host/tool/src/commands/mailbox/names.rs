@@ -1,5 +1,7 @@
 //! The names that people give to commands, statuses and refusals.
 
+use bindings::Refusal;
+
 /// The name that source 000 gives a command.
 pub fn command(code: u32) -> Option<&'static str> {
     match code {
@@ -41,11 +43,11 @@ fn status(code: u64) -> String {
 /// A refusal with the rule of document 01 that it is given for.
 pub fn refusal(number: u64) -> String {
     let rule = match number {
-        5 => "the mailbox breaks its own rules",
-        8 => "this caller has no post outstanding",
-        9 => "callers are 0 to 7, and commands at most 0x3ff",
-        10 => "this caller's last post is not taken yet",
-        11 => "the answer is not there yet",
+        Refusal::FIELD => "the mailbox breaks its own rules",
+        Refusal::ABSENT => "this caller has no post outstanding",
+        Refusal::RANGE => "callers are 0 to 7, and commands at most 0x3ff",
+        Refusal::OUTSTANDING => "this caller's last post is not taken yet",
+        Refusal::EARLY => "the answer is not there yet",
         _ => "document 01 has the rule",
     };
     format!("refused {number}: {rule}")
@@ -92,7 +94,10 @@ mod tests {
 
     #[test]
     fn refusals_keep_their_number() {
-        assert_eq!(refusal(11), "refused 11: the answer is not there yet");
+        assert_eq!(
+            refusal(Refusal::EARLY),
+            "refused 11: the answer is not there yet"
+        );
         assert_eq!(refusal(99), "refused 99: document 01 has the rule");
     }
 }

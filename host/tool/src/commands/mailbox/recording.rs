@@ -277,6 +277,7 @@ impl Step {
 #[cfg(test)]
 mod tests {
     use super::*;
+    use bindings::Refusal;
 
     fn played(script: &str) -> Recording {
         Recording::play(script.as_bytes())
@@ -309,12 +310,15 @@ mod tests {
             asked: Asked::Take,
             answer: Told::Refused(number),
         };
-        assert_eq!(callers[&2], [post(2, 0x80, Told::Untaken), refused(6, 11)]);
-        assert_eq!(callers[&9], [refused(12, 9)]);
+        assert_eq!(
+            callers[&2],
+            [post(2, 0x80, Told::Untaken), refused(6, Refusal::EARLY)]
+        );
+        assert_eq!(callers[&9], [refused(12, Refusal::RANGE)]);
         let steps = &recording.parts[0].steps;
         assert!(steps.iter().all(|step| (step.asked, step.acted) == (2, 2)));
         let at_the_end = [1, 2].map(|caller| recording.parts[0].take_at_the_end(caller));
-        assert_eq!(at_the_end[0].unwrap_err().number, 11);
+        assert_eq!(at_the_end[0].unwrap_err().number, Refusal::EARLY);
         assert_eq!(at_the_end[1], Ok(0x8080_0000));
     }
 
@@ -346,8 +350,8 @@ mod tests {
         let recording = played("mailbox-of - command:2:0x04000000 -\nload\n");
         let part = &recording.parts[1];
         assert_eq!(part.callers[&2], [post(1, 0x400, Told::Untaken)]);
-        assert_eq!(part.steps[0].refused, [(2, 5)]);
-        assert_eq!(part.take_at_the_end(2).unwrap_err().number, 5);
+        assert_eq!(part.steps[0].refused, [(2, Refusal::FIELD)]);
+        assert_eq!(part.take_at_the_end(2).unwrap_err().number, Refusal::FIELD);
     }
 
     #[test]

@@ -2,7 +2,7 @@
 
 use super::names;
 use super::recording::{Asked, Part, Recording, Row, Step, Told};
-use bindings::{Firmware, Interrupt};
+use bindings::{Firmware, Interrupt, Refusal};
 
 /// The report of a recording, for people.
 pub fn of(recording: &Recording) -> String {
@@ -77,7 +77,7 @@ fn post(command: u32) -> String {
 fn untaken(part: &Part, caller: u32) -> String {
     match part.take_at_the_end(caller) {
         Ok(word) => format!("{} (answered, not taken)", names::word(word)),
-        Err(refusal) if refusal.number == 11 => String::from("not answered yet"),
+        Err(refusal) if refusal.is(Refusal::EARLY) => String::from("not answered yet"),
         Err(refusal) => format!("out of reach; a take is {}", names::refusal(refusal.number)),
     }
 }

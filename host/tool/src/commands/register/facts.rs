@@ -87,10 +87,10 @@ impl Facts {
     }
 
     /// Why the image is refused, and where that was met: the first refusal on the way to level one, of level two, or of a
-    /// question. An 8 to the last two says that something is not there, and refuses nothing.
+    /// question. Of the last two, one that is not there refuses nothing.
     pub fn refusal(&self) -> Option<(Refusal, Met)> {
         let [one, two] = &self.levels;
-        let length = self.efs.err().filter(|refusal| refusal.number == 15);
+        let length = self.efs.err().filter(|refusal| refusal.is(Refusal::IMAGE));
         let way = [
             (length, Met::Length),
             (self.efs.err(), Met::Efs),
@@ -100,8 +100,8 @@ impl Facts {
         let asked = self.asked.iter();
         let asked = asked.map(|asked| (asked.answer.err(), Met::Question(asked.class)));
         let below = std::iter::once((two.directory.err(), Met::LevelTwo)).chain(asked);
-        let below =
-            below.filter(|(refusal, _)| refusal.map_or(false, |refusal| refusal.number != 8));
+        let below = below
+            .filter(|(refusal, _)| refusal.map_or(false, |refusal| !refusal.is(Refusal::ABSENT)));
         way.into_iter()
             .chain(below)
             .find_map(|(refusal, met)| Some((refusal?, met)))
@@ -175,29 +175,47 @@ mod tests {
     }
 
     #[test]
-    fn the_first_refusal_tells_and_an_8_below_level_one_does_not() {
+    fn the_first_refusal_tells_and_what_is_absent_below_level_one_does_not() {
         let no = |number: u64| Refusal::alone(number);
         let mut facts = facts();
         assert_eq!(facts.refusal(), None);
-        facts.asked[4].answer = Err(no(16));
-        assert_eq!(facts.refusal(), Some((no(16), Met::Question(0x12))));
-        facts.asked[0].answer = Err(no(7));
-        assert_eq!(facts.refusal(), Some((no(7), Met::Question(0x01))));
-        facts.asked[0].answer = Err(no(8));
-        assert_eq!(facts.refusal(), Some((no(16), Met::Question(0x12))));
+        facts.asked[4].answer = Err(no(Refusal::MODE));
+        assert_eq!(
+            facts.refusal(),
+            Some((no(Refusal::MODE), Met::Question(0x12)))
+        );
+        facts.asked[0].answer = Err(no(Refusal::OUTSIDE));
+        assert_eq!(
+            facts.refusal(),
+            Some((no(Refusal::OUTSIDE), Met::Question(0x01)))
+        );
+        facts.asked[0].answer = Err(no(Refusal::ABSENT));
+        assert_eq!(
+            facts.refusal(),
+            Some((no(Refusal::MODE), Met::Question(0x12)))
+        );
         assert!(!facts.has_boot_loader());
-        facts.levels[1].directory = Err(no(8));
-        assert_eq!(facts.refusal(), Some((no(16), Met::Question(0x12))));
-        facts.levels[1].directory = Err(no(14));
-        assert_eq!(facts.refusal(), Some((no(14), Met::LevelTwo)));
-        facts.levels[0].directory = Err(no(4));
-        assert_eq!(facts.refusal(), Some((no(4), Met::LevelOne)));
-        facts.pointer = Err(no(8));
-        assert_eq!(facts.refusal(), Some((no(8), Met::Pointers)));
-        facts.efs = Err(no(2));
-        assert_eq!(facts.refusal(), Some((no(2), Met::Efs)));
-        facts.efs = Err(no(15));
-        assert_eq!(facts.refusal(), Some((no(15), Met::Length)));
+        facts.levels[1].directory = Err(no(Refusal::ABSENT));
+        assert_eq!(
+            facts.refusal(),
+            Some((no(Refusal::MODE), Met::Question(0x12)))
+        );
+        facts.levels[1].directory = Err(no(Refusal::MISPLACED));
+        assert_eq!(
+            facts.refusal(),
+            Some((no(Refusal::MISPLACED), Met::LevelTwo))
+        );
+        facts.levels[0].directory = Err(no(Refusal::CHECKSUM));
+        assert_eq!(
+            facts.refusal(),
+            Some((no(Refusal::CHECKSUM), Met::LevelOne))
+        );
+        facts.pointer = Err(no(Refusal::ABSENT));
+        assert_eq!(facts.refusal(), Some((no(Refusal::ABSENT), Met::Pointers)));
+        facts.efs = Err(no(Refusal::SIGNATURE));
+        assert_eq!(facts.refusal(), Some((no(Refusal::SIGNATURE), Met::Efs)));
+        facts.efs = Err(no(Refusal::IMAGE));
+        assert_eq!(facts.refusal(), Some((no(Refusal::IMAGE), Met::Length)));
     }
 
     #[test]
@@ -206,7 +224,7 @@ mod tests {
         assert_eq!(row.version_words(), Some(String::from("00.08.01.74")));
         row.version = Some(Ok(0xABCD_0F01));
         assert_eq!(row.version_words(), Some(String::from("ab.cd.0f.01")));
-        row.version = Some(Err(Refusal::alone(2)));
+        row.version = Some(Err(Refusal::alone(Refusal::SIGNATURE)));
         assert_eq!(row.version_words(), None);
         row.version = None;
         assert_eq!(row.version_words(), None);

@@ -6,6 +6,7 @@ use crate::shown::names;
 use crate::shown::page::{kept, Look, Page};
 use crate::shown::refusals;
 use crate::shown::repeats;
+use bindings::Refusal;
 
 /// What is shown of an image.
 pub fn image(page: &mut Page, source: &Source, outcome: &Outcome) {
@@ -114,7 +115,7 @@ fn directory(page: &mut Page, facts: &Facts, level: &Level) {
         ),
         // What stands before it was refused with the same number, and is shown so.
         Err(_) if is_out_of_reach(facts, level) => (Look::Plain, format!("{name}: not reached")),
-        Err(refusal) if level.level == 2 && refusal.number == 8 => (
+        Err(refusal) if level.level == 2 && refusal.is(Refusal::ABSENT) => (
             Look::Plain,
             format!("{name}: none, for no entry of level one leads to it"),
         ),
@@ -201,7 +202,7 @@ fn entries(page: &mut Page, rows: &[Row]) {
 /// A value is no fault; any other entry without bytes is shown as one.
 fn look_of(row: &Row) -> Look {
     match row.part {
-        Err(refusal) if refusal.number != 17 => Look::Bad,
+        Err(refusal) if !refusal.is(Refusal::VALUE) => Look::Bad,
         _ => Look::Plain,
     }
 }

@@ -98,6 +98,7 @@ fn put_firmware_header(image: &mut [u8], place: usize, version: u32) {
 mod tests {
     use super::super::facts::Facts;
     use super::*;
+    use bindings::Refusal;
 
     #[test]
     fn the_sample_shows_all_that_a_register_can_show() {
@@ -114,7 +115,7 @@ mod tests {
             .map(|refusal| refusal.number)
             .collect();
         refused.sort_unstable();
-        assert_eq!(refused, [7, 16, 17]);
+        assert_eq!(refused, [Refusal::OUTSIDE, Refusal::MODE, Refusal::VALUE]);
         let versions = rows().filter_map(|row| row.version_words());
         assert!(versions.into_iter().any(|version| version == "00.08.01.74"));
         let found = facts.asked.iter().filter(|asked| asked.answer.is_ok());
