@@ -6,9 +6,9 @@ use std::ffi::OsStr;
 use std::io::Read;
 use std::process::{Command, Stdio};
 
-/// The commands that show or write something for people.
-const COMMANDS: [&str; 9] = [
-    "register", "find", "entry", "extract", "build", "aspt", "guids", "explain", "mailbox",
+/// The commands.
+const COMMANDS: [&str; 10] = [
+    "register", "find", "entry", "extract", "build", "aspt", "guids", "explain", "mailbox", "ask",
 ];
 
 /// The tool with some words, and nothing on standard input.
@@ -48,7 +48,7 @@ fn help_and_version_are_printed() {
             assert_eq!((run.status, text(&run.said)), (Some(0), String::new()));
             let begins = format!("kpalumere {name} ");
             assert!(text(&run.answers).starts_with(&begins), "{words:?}");
-            assert!(text(&run.answers).contains("\nStatus: 0"), "{words:?}");
+            assert!(text(&run.answers).contains("\nStatus:\n  0  "), "{words:?}");
         }
     }
     let run = tool(&["--version"]);

@@ -8,13 +8,21 @@ pub struct Command {
     pub name: &'static str,
     /// The words that follow the name, as the help shows them.
     pub words: &'static str,
-    /// What it does, on one line of `kpalumere --help`.
+    /// What it does, for `kpalumere --help`.
     pub does: &'static str,
-    /// What `kpalumere NAME --help` prints.
+    /// What `kpalumere NAME --help` prints before the statuses.
     pub help: fn() -> String,
+    /// The statuses that it ends with, rising, and when it does.
+    pub statuses: &'static [Status],
     /// Reads the words that follow the name. The error is the message to show, without the program's name.
     pub read: fn(&[OsString]) -> Result<Job, String>,
 }
+
+/// A status, and when a run ends with it.
+pub type Status = (u8, &'static str);
+
+/// The status that every command has for words that it cannot read.
+pub const WRONG_WORDS: Status = (2, "the command line is wrong");
 
 /// What the words ask for, ready to be run.
 pub type Job = Box<dyn FnOnce() -> Ending>;

@@ -22,7 +22,7 @@ pub fn read(commands: Commands, words: impl Iterator<Item = OsString>) -> Result
         [] => Err(help::short(commands)),
         ["--help" | "-h" | "help"] => Ok(printed(help::text(commands))),
         ["--version"] => Ok(printed(help::VERSION.to_string())),
-        ["help", _] => Ok(printed((named(commands, &words[1])?.help)())),
+        ["help", _] => Ok(printed(help::of(named(commands, &words[1])?))),
         [known @ ("--help" | "-h" | "help" | "--version"), ..] => Err(format!(
             "kpalumere: `{known}` is followed by a word that it does not take. \
              `kpalumere --help` has the commands."
@@ -31,7 +31,7 @@ pub fn read(commands: Commands, words: impl Iterator<Item = OsString>) -> Result
             let command = named(commands, &words[0])?;
             let mut options = more.iter().take_while(|word| **word != "--");
             if options.any(|word| matches!(*word, "--help" | "-h")) {
-                return Ok(printed((command.help)()));
+                return Ok(printed(help::of(command)));
             }
             (command.read)(&words[1..]).map_err(|wrong| format!("kpalumere: {wrong}"))
         }

@@ -1,6 +1,6 @@
 //! `kpalumere aspt`: the AMD Secure Processor Table, laid out with the names of source 000.
 
-use crate::arguments::command::{Command, Job};
+use crate::arguments::command::{Command, Job, WRONG_WORDS};
 use crate::arguments::words::{Words, JSON};
 use crate::shown::answer::show;
 use crate::shown::digits::hexadecimal;
@@ -15,22 +15,26 @@ pub static COMMAND: Command = Command {
     words: "FILE [--json]",
     does: "the ACPI table ASPT, laid out with its names",
     help: || HELP.to_string(),
+    statuses: &[
+        (0, "the table is accepted"),
+        (1, "it is refused"),
+        WRONG_WORDS,
+        (3, "FILE cannot be read or the output cannot be written"),
+    ],
     read,
 };
 
 /// What `aspt --help` prints.
 const HELP: &str = "\
-kpalumere aspt FILE [--json]: the AMD Secure Processor Table (ASPT), laid out with the names that source 000 gives its
-fields.
+kpalumere aspt FILE [--json]: the AMD Secure Processor Table (ASPT), laid out
+with the names that source 000 gives its fields.
 
-FILE holds the table in its first 112 bytes, or is - for standard input. Registers are shown with their offset and with the
-address that base and offset make. --json writes the same for programs; docs/USER.md has the fields.
+FILE holds the table in its first 112 bytes, or is - for standard input.
+Registers are shown with their offset and with the address that base and offset
+make. --json writes the same for programs; docs/USER.md has the fields.
 
 Try it, on a machine that has the table:
   kpalumere aspt /sys/firmware/acpi/tables/ASPT
-
-Status: 0 where the table is accepted, 1 where it is refused, 2 where the command line is wrong, 3 where FILE cannot be read
-or the output cannot be written.
 ";
 
 /// The names of a structure: its own, and of each register that its type has.

@@ -1,6 +1,6 @@
 //! `kpalumere build`: a directory from a description in text, written through the library.
 
-use crate::arguments::command::{Command, Job};
+use crate::arguments::command::{Command, Job, WRONG_WORDS};
 use crate::arguments::lines::words_of;
 use crate::arguments::numbers::{number, number32, number8};
 use crate::arguments::quoted::quoted;
@@ -21,6 +21,12 @@ pub static COMMAND: Command = Command {
     words: "SPEC FILE [--force]",
     does: "a directory from a description in text, into a new file",
     help,
+    statuses: &[
+        (0, "FILE holds the directory"),
+        (1, "a line is wrong or refused"),
+        WRONG_WORDS,
+        (3, "SPEC cannot be read or FILE cannot be written"),
+    ],
     read,
 };
 
@@ -29,24 +35,26 @@ fn help() -> String {
     let names = names::list_of_types();
     format!(
         "\
-kpalumere build SPEC FILE [--force]: a directory from a description in text, with its checksum, into a new file.
+kpalumere build SPEC FILE [--force]: a directory from a description in text,
+with its checksum, into a new file.
 
-SPEC is a text file, or - for standard input. Its first line is `level 1` or `level 2`; each line after it is one entry:
+SPEC is a text file, or - for standard input. Its first line is `level 1` or
+`level 2`; each line after it is one entry:
   TYPE SUB SIZE LOCATION MODE
-TYPE is a number or one of the names below, and no two lines have the same TYPE and SUB. MODE is how LOCATION counts:
-physical, image, directory, partition, or its number 0 to 3. Numbers are decimal, or 0x and hexadecimal. Words are parted by
-spaces or tabs; # starts a comment.
+TYPE is a number or one of the names below, and no two lines have the same TYPE
+and SUB. MODE is how LOCATION counts: physical, image, directory, partition, or
+its number 0 to 3. Numbers are decimal, or 0x and hexadecimal. Words are parted
+by spaces or tabs; # starts a comment.
 
-A FILE that is there already is left as it is, unless --force is given; then it is replaced in one step, so that a failure
-leaves it whole. Where a line is wrong or an entry is refused, nothing is written.
+A FILE that is there already is left as it is, unless --force is given; then it
+is replaced in one step, so that a failure leaves it whole. Where a line is
+wrong or an entry is refused, nothing is written.
 
 Try it:
-  printf 'level 1\\nboot-loader 0 0x100 0x1000 image\\n' | kpalumere build - board.dir
+  printf 'level 1\\nboot-loader 0 0x100 0x1000 image\\n' |
+    kpalumere build - board.dir
 
-{names}
-Status: 0 where FILE holds the directory, 1 where a line is wrong or refused, 2 where the command line is wrong, 3 where
-SPEC cannot be read or FILE cannot be written.
-"
+{names}"
     )
 }
 

@@ -1,6 +1,6 @@
 //! `kpalumere entry`: one entry of a directory, with names and words, and where its bytes lie.
 
-use crate::arguments::command::{Command, Job};
+use crate::arguments::command::{Command, Job, WRONG_WORDS};
 use crate::arguments::wanted_entry::WantedEntry;
 use crate::arguments::words::{Words, JSON};
 use crate::shown::answer::show;
@@ -16,21 +16,32 @@ pub static COMMAND: Command = Command {
     words: "IMAGE LEVEL INDEX [--json]",
     does: "one entry of a directory in words, and where its bytes lie",
     help: || HELP.to_string(),
+    statuses: &[
+        (
+            0,
+            "the entry is given and its bytes lie in the image, or it holds a value",
+        ),
+        (1, "the entry or its bytes are refused"),
+        WRONG_WORDS,
+        (
+            3,
+            "the image cannot be read or the output cannot be written",
+        ),
+    ],
     read,
 };
 
 /// What `entry --help` prints.
 const HELP: &str = "\
-kpalumere entry IMAGE LEVEL INDEX [--json]: one entry of a directory in words, and where its bytes lie or why not.
+kpalumere entry IMAGE LEVEL INDEX [--json]: one entry of a directory in words,
+and where its bytes lie or why not.
 
-IMAGE is a flash image, or - for standard input. LEVEL is 1 or 2; INDEX counts the directory's entries from 0. Numbers are
-decimal, or 0x and hexadecimal. --json writes the same for programs; docs/USER.md has the fields.
+IMAGE is a flash image, or - for standard input. LEVEL is 1 or 2; INDEX counts
+the directory's entries from 0. Numbers are decimal, or 0x and hexadecimal.
+--json writes the same for programs; docs/USER.md has the fields.
 
 Try it:
   kpalumere entry board.rom 1 0
-
-Status: 0 where the entry is given and its bytes lie in the image, or it holds a value; 1 where the entry or its bytes are
-refused; 2 where the command line is wrong; 3 where the image cannot be read or the output cannot be written.
 ";
 
 fn read(words: &[OsString]) -> Result<Job, String> {

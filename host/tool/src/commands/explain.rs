@@ -3,8 +3,8 @@
 use crate::arguments::command::{Command, Job};
 use crate::arguments::numbers;
 use crate::arguments::words::Words;
-use crate::shown::page::folded;
 use crate::shown::refusals::{explained, Explained, REFUSALS};
+use crate::system::folding::folded;
 use crate::system::output::print;
 use crate::system::terminal;
 use std::ffi::OsString;
@@ -15,6 +15,11 @@ pub static COMMAND: Command = Command {
     words: "[NUMBER]",
     does: "what a refusal number means, what usually causes it, what to look at",
     help,
+    statuses: &[
+        (0, "what was asked for is printed"),
+        (2, "there is no such number, or the command line is wrong"),
+        (3, "the output cannot be written"),
+    ],
     read,
 };
 
@@ -23,16 +28,16 @@ fn help() -> String {
     let amount = REFUSALS.len();
     format!(
         "\
-kpalumere explain [NUMBER]: what a refusal number means, what usually causes it, and what to look at.
+kpalumere explain [NUMBER]: what a refusal number means, what usually causes it,
+and what to look at.
 
-Where the library does not accept an image, a table or a call, it gives one of the {amount} numbers of document 01, and a command
-shows it as 'refused N'. Without NUMBER all of them are listed, a line each.
+Where the library does not accept an image, a table or a call, it gives one of
+the {amount} numbers of document 01, and a command shows it as 'refused N'.
+Without NUMBER all of them are listed, a line each.
 
 Try it:
   kpalumere explain
   kpalumere explain 4
-
-Status: 0, or 2 where there is no such number.
 "
     )
 }

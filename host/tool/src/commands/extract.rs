@@ -1,6 +1,6 @@
 //! `kpalumere extract`: the bytes of one entry, into a file.
 
-use crate::arguments::command::{Command, Job};
+use crate::arguments::command::{Command, Job, WRONG_WORDS};
 use crate::arguments::wanted_entry::WantedEntry;
 use crate::arguments::words::{Words, FORCE};
 use crate::shown::entry::{range, EntryShown};
@@ -18,22 +18,28 @@ pub static COMMAND: Command = Command {
     words: "IMAGE LEVEL INDEX FILE [--force]",
     does: "the bytes of one entry, into a new file",
     help: || HELP.to_string(),
+    statuses: &[
+        (0, "FILE holds the bytes"),
+        (1, "they are refused and nothing is written"),
+        WRONG_WORDS,
+        (3, "the image cannot be read or FILE cannot be written"),
+    ],
     read,
 };
 
 /// What `extract --help` prints.
 const HELP: &str = "\
-kpalumere extract IMAGE LEVEL INDEX FILE [--force]: the bytes of one entry, into a new file.
+kpalumere extract IMAGE LEVEL INDEX FILE [--force]: the bytes of one entry, into
+a new file.
 
-IMAGE is a flash image, or - for standard input. LEVEL is 1 or 2; INDEX counts the directory's entries from 0. Numbers are
-decimal, or 0x and hexadecimal. A FILE that is there already is left as it is, unless --force is given; then it is replaced
-in one step, so that a failure leaves it whole. The image itself is never written over.
+IMAGE is a flash image, or - for standard input. LEVEL is 1 or 2; INDEX counts
+the directory's entries from 0. Numbers are decimal, or 0x and hexadecimal. A
+FILE that is there already is left as it is, unless --force is given; then it is
+replaced in one step, so that a failure leaves it whole. The image itself is
+never written over.
 
 Try it:
   kpalumere extract board.rom 1 0 key.bin
-
-Status: 0 where FILE holds the bytes, 1 where they are refused and nothing is written, 2 where the command line is wrong, 3
-where the image cannot be read or FILE cannot be written.
 ";
 
 fn read(words: &[OsString]) -> Result<Job, String> {

@@ -1,6 +1,6 @@
 //! `kpalumere find`: the first entry of a type and subprogram, in the whole image or in one directory.
 
-use crate::arguments::command::{Command, Job};
+use crate::arguments::command::{Command, Job, WRONG_WORDS};
 use crate::arguments::words::{CommandOption, Words, JSON};
 use crate::shown::answer::show;
 use crate::shown::entry::EntryShown;
@@ -16,6 +16,18 @@ pub static COMMAND: Command = Command {
     words: "IMAGE TYPE SUB [--level L] [--json]",
     does: "where an image keeps the entry of a type and subprogram",
     help,
+    statuses: &[
+        (
+            0,
+            "it is found and its bytes lie in the image, or it holds a value",
+        ),
+        (1, "there is none, or the image or the bytes are refused"),
+        WRONG_WORDS,
+        (
+            3,
+            "the image cannot be read or the output cannot be written",
+        ),
+    ],
     read,
 };
 
@@ -32,21 +44,21 @@ fn help() -> String {
     let names = names::list_of_types();
     format!(
         "\
-kpalumere find IMAGE TYPE SUB [--level L] [--json]: the first entry of a type and subprogram, and where its bytes lie.
+kpalumere find IMAGE TYPE SUB [--level L] [--json]: the first entry of a type
+and subprogram, and where its bytes lie.
 
-The whole image is searched: level one in order, and level two where an entry leads to it, before the entry after that one.
-With --level L the directory of that level is searched alone. IMAGE is a flash image, or - for standard input. SUB is a
-number, TYPE a number or one of the names below; numbers are decimal, or 0x and hexadecimal. How many entries were tested is
-told, found or not. --json writes the same for programs; docs/USER.md has the fields.
+The whole image is searched: level 1 in order, and level 2 where an entry leads
+to it, before the entry after that one. With --level L the directory of that
+level is searched alone. IMAGE is a flash image, or - for standard input. SUB is
+a number, TYPE a number or one of the names below; numbers are decimal, or 0x
+and hexadecimal. How many entries were tested is told, found or not. --json
+writes the same for programs; docs/USER.md has the fields.
 
 Try it:
   kpalumere find board.rom boot-loader 0
   kpalumere find board.rom 0x08 1 --level 2
 
-{names}
-Status: 0 where it is found and its bytes lie in the image, or it holds a value; 1 where there is none, or the image or the
-bytes are refused; 2 where the command line is wrong; 3 where the image cannot be read or the output cannot be written.
-"
+{names}"
     )
 }
 

@@ -1,6 +1,6 @@
 //! `kpalumere guids`: the GUID table at the end of a guest firmware image, with the names of the GUIDs that are known.
 
-use crate::arguments::command::{Command, Job};
+use crate::arguments::command::{Command, Job, WRONG_WORDS};
 use crate::arguments::words::{Words, JSON};
 use crate::shown::answer::show;
 use crate::shown::json::{Fields, Json};
@@ -14,22 +14,27 @@ pub static COMMAND: Command = Command {
     words: "FILE [--json]",
     does: "the GUID table of a guest firmware image, entry by entry",
     help: || HELP.to_string(),
+    statuses: &[
+        (0, "the table is accepted"),
+        (1, "it is refused"),
+        WRONG_WORDS,
+        (3, "FILE cannot be read or the output cannot be written"),
+    ],
     read,
 };
 
 /// What `guids --help` prints.
 const HELP: &str = "\
-kpalumere guids FILE [--json]: the GUID table at the end of a guest firmware image, such as OVMF.
+kpalumere guids FILE [--json]: the GUID table at the end of a guest firmware
+image, such as OVMF.
 
-Every entry is shown, nearest the footer first: its GUID, where its data lies in FILE, how long the data is, and the name of
-the GUID where source 004 or OVMF gives it one. FILE may be - for standard input. --json writes the same for programs;
-docs/USER.md has the fields.
+Every entry is shown, nearest the footer first: its GUID, where its data lies in
+FILE, how long the data is, and the name of the GUID where source 004 or OVMF
+gives it one. FILE may be - for standard input. --json writes the same for
+programs; docs/USER.md has the fields.
 
 Try it, with the Debian package ovmf:
   kpalumere guids /usr/share/ovmf/OVMF.fd
-
-Status: 0 where the table is accepted, 1 where it is refused, 2 where the command line is wrong, 3 where FILE cannot be read
-or the output cannot be written.
 ";
 
 /// A GUID that has a name.

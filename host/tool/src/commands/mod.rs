@@ -32,6 +32,7 @@ mod tests {
     use super::*;
     use crate::arguments::command::Job;
     use crate::arguments::command_line::read;
+    use crate::arguments::help;
     use std::ffi::OsString;
     use std::os::unix::ffi::OsStringExt;
 
@@ -79,15 +80,31 @@ mod tests {
     #[test]
     fn every_command_says_what_it_does_and_how_it_ends() {
         for command in COMMANDS {
-            let text = (command.help)();
+            let text = help::of(command);
             let name = command.name;
             assert!(text.starts_with(&format!("kpalumere {name}")), "{name}");
-            assert!(text.ends_with('\n'), "{name}");
+            let list: String = command
+                .statuses
+                .iter()
+                .map(|(status, when)| format!("  {status}  {when}\n"))
+                .collect();
+            assert!(text.ends_with(&format!("\n\nStatus:\n{list}")), "{text}");
+            let statuses: Vec<u8> = command.statuses.iter().map(|(status, _)| *status).collect();
             assert!(
-                text.lines().all(|line| line.chars().count() <= 132),
+                [&[0, 1, 2, 3][..], &[0, 2, 3]].contains(&&statuses[..]),
                 "{name}"
             );
-            assert!(!command.does.contains('\n'), "{name}");
+        }
+    }
+
+    #[test]
+    fn no_line_of_help_is_wider_than_a_terminal() {
+        let all = COMMANDS.iter().map(|command| help::of(command));
+        for text in all.chain([help::text(COMMANDS), help::short(COMMANDS)]) {
+            for line in text.lines() {
+                assert!(line.chars().count() <= help::COLUMNS, "{line}");
+                assert_eq!(line, line.trim_end());
+            }
         }
     }
 

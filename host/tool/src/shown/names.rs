@@ -81,12 +81,12 @@ pub fn read_entry_type(word: &OsStr) -> Result<u8, String> {
 
 /// The names of the entry types with their codes, as a help shows them: in columns, and with a line before them.
 pub fn list_of_types() -> String {
-    const ACROSS: usize = 4;
+    const ACROSS: usize = 3;
     let mut text = String::from("The names of entry types:\n");
     for row in ENTRY_TYPES.chunks(ACROSS) {
         let cells: Vec<String> = row
             .iter()
-            .map(|known| format!("{:#04x} {:<22}", known.code, known.name))
+            .map(|known| format!("{:#04x} {:<20}", known.code, known.name))
             .collect();
         text.push_str(&format!("  {}\n", cells.join("  ").trim_end()));
     }

@@ -1,4 +1,6 @@
-//! Text laid out in lines of so many columns, broken between words alone, and coloured where that is wanted.
+//! A page for people: lines and tables that fit its columns, coloured where that is wanted.
+
+use crate::system::folding::{folded_to, on_one_line};
 
 /// How a line looks on a terminal with colour. Without colour all look the same.
 #[derive(Clone, Copy, Debug, PartialEq, Eq)]
@@ -89,48 +91,6 @@ impl Page {
     }
 }
 
-/// A space at which no line is broken, so that a number stays with what it counts.
-const KEPT: char = '\u{a0}';
-
-/// Words that stay on one line.
-pub fn kept(words: &str) -> String {
-    words.replace(' ', &KEPT.to_string())
-}
-
-/// A text with kept words as it stands on a line of any length.
-pub fn on_one_line(text: &str) -> String {
-    text.replace(KEPT, " ")
-}
-
-/// The lines of a text, each of at most `columns` characters where its words let it be.
-pub fn folded(text: &str, columns: usize) -> Vec<String> {
-    folded_to(text, |_| columns)
-}
-
-/// The same, where each line may have another number of columns.
-fn folded_to(text: &str, columns_of: impl Fn(usize) -> usize) -> Vec<String> {
-    let mut lines: Vec<String> = Vec::new();
-    for words in text.split(' ').filter(|words| !words.is_empty()) {
-        // Kept words that no line can hold are broken all the same.
-        let together = words.chars().count() <= columns_of(lines.len());
-        let parts = match together {
-            true => vec![on_one_line(words)],
-            false => words.split(KEPT).map(String::from).collect(),
-        };
-        for part in parts {
-            let columns = columns_of(lines.len().saturating_sub(1));
-            match lines.last_mut() {
-                Some(line) if line.chars().count() + 1 + part.chars().count() <= columns => {
-                    line.push(' ');
-                    line.push_str(&part);
-                }
-                _ => lines.push(part),
-            }
-        }
-    }
-    lines
-}
-
 /// The lines of a table, whose cells stand below each other.
 fn table(rows: &[(Look, Vec<String>)]) -> Vec<String> {
     let count = rows.iter().map(|(_, cells)| cells.len()).max().unwrap_or(0);
@@ -153,18 +113,6 @@ fn table(rows: &[(Look, Vec<String>)]) -> Vec<String> {
 #[cfg(test)]
 mod tests {
     use super::*;
-
-    #[test]
-    fn lines_are_as_long_as_they_may_be_and_no_word_is_broken() {
-        assert_eq!(folded("aa bb cc", 5), ["aa bb", "cc"]);
-        assert_eq!(folded("aa bb cc", 4), ["aa", "bb", "cc"]);
-        assert_eq!(folded("aa 0x12345678 b", 4), ["aa", "0x12345678", "b"]);
-        assert_eq!(folded("é é", 3), ["é é"]);
-        assert!(folded(" ", 5).is_empty());
-        let text = format!("{} cc", kept("aa bb"));
-        assert_eq!(folded(&text, 5), ["aa bb", "cc"]);
-        assert_eq!(folded(&text, 4), ["aa", "bb", "cc"]);
-    }
 
     #[test]
     fn lines_after_the_first_hang() {

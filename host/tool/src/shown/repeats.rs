@@ -1,7 +1,7 @@
 //! The entries for which a directory is refused with 18, as the library names them.
 
-use crate::shown::page::{kept, on_one_line};
 use crate::shown::refusals;
+use crate::system::folding::{kept, on_one_line};
 use bindings::{repeated, Refusal, Repeat};
 
 /// The entries that repeat in the directory of a level, where it was refused for that. Level two has none to show where level one

@@ -2,6 +2,7 @@
 
 pub mod ending;
 pub mod files;
+pub mod folding;
 pub mod messages;
 pub mod new_file;
 pub mod opening;

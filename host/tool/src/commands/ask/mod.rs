@@ -13,7 +13,8 @@ mod mailbox;
 mod told;
 mod view;
 
-use crate::arguments::command::{Command, Job};
+use crate::arguments::command::{Command, Job, WRONG_WORDS};
+use crate::arguments::help::row;
 use crate::arguments::lines::{words_of, BadLine};
 use crate::arguments::quoted::quoted;
 use crate::system::ending::Ending;
@@ -30,6 +31,15 @@ pub static COMMAND: Command = Command {
     words: "[FILE]",
     does: "answer the calls in FILE, or on standard input: a line a call, a line its answer",
     help,
+    statuses: &[
+        (0, "every line was a call; a refusal is an answer"),
+        (1, "a line was no call"),
+        WRONG_WORDS,
+        (
+            3,
+            "the calls cannot be read or the answers cannot be written",
+        ),
+    ],
     read: read_words,
 };
 
@@ -171,17 +181,14 @@ fn answer_to(state: &mut State, name: &[u8], words: &[&[u8]]) -> Result<String, 
 
 /// The help of `ask`: how a line is written, and every call, subject by subject.
 fn help() -> String {
-    /// How many columns a call takes before the text on it. A longer one has a line of its own.
-    const COLUMNS: usize = 36;
+    /// From which column on it is said what a call gives.
+    const GIVES_FROM: usize = 36;
     let mut text = String::from(LANGUAGE);
     for table in TABLES {
         text.push('\n');
-        for call in table.iter() {
-            let form = format!("  {} {}", call.form.name, call.form.words);
-            text.push_str(&match form.len() < COLUMNS {
-                true => format!("{form:<COLUMNS$}{}\n", call.form.gives),
-                false => format!("{form}\n{:COLUMNS$}{}\n", "", call.form.gives),
-            });
+        for Call { form, .. } in table.iter() {
+            let written = format!("  {} {}", form.name, form.words);
+            text.push_str(&row(&written, form.gives, GIVES_FROM));
         }
     }
     text
@@ -191,15 +198,18 @@ fn help() -> String {
 const LANGUAGE: &str = "\
 kpalumere ask [FILE]: one line is one call, one line is its answer.
 
-Calls are read from FILE, or from standard input. Each answer is written before the next line is read. # starts a
-comment; a line with nothing else has no answer. Words are parted by spaces or tabs.
-  NAME     letters, digits and _; it names a buffer, whose bytes are lent to the calls
+Calls are read from FILE, or from standard input. Each answer is written before
+the next line is read. # starts a comment; a line with nothing else has no
+answer. Words are parted by spaces or tabs.
+  NAME     letters, digits and _; it names a buffer, whose bytes are lent to the
+           calls
   HEX      an even number of hexadecimal digits, or - for no bytes
   GUID     hexadecimal digits in groups of 8, 4, 4, 4 and 12, parted by -
 Most other words are numbers: decimal digits, or 0x and hexadecimal digits.
-What the library does not accept is answered 'refused N', where N is the number of document 01.
-A line that is no call is answered 'bad line: ' with the reason; it changes nothing, and the status is 1 at the end.
-docs/ASK.md has the whole language.
+What the library does not accept is answered 'refused N', where N is the number
+of document 01. A line that is no call is answered 'bad line: ' with the reason;
+it changes nothing, and the status is 1 at the end. docs/ASK.md has the whole
+language.
 
 Calls:
 ";

@@ -6,7 +6,7 @@ mod names;
 mod recording;
 mod report;
 
-use crate::arguments::command::{Command, Job};
+use crate::arguments::command::{Command, Job, WRONG_WORDS};
 use crate::system::ending::Ending;
 use crate::system::files::{read_up_to, shown_name, MOST};
 use crate::system::messages::say;
@@ -21,32 +21,49 @@ pub static COMMAND: Command = Command {
     words: "[FILE]",
     does: "play a recording of the mailbox: what each caller asked, and what it was answered",
     help: || HELP.to_string(),
+    statuses: &[
+        (0, "every line was a call and none was refused"),
+        (
+            1,
+            "a line was no call (it is left out) or a call was refused",
+        ),
+        WRONG_WORDS,
+        (
+            3,
+            "the recording cannot be read or is too long, or the output not written",
+        ),
+    ],
     read: read_words,
 };
 
 /// What `mailbox --help` prints.
 const HELP: &str = "\
-kpalumere mailbox [FILE]: plays a recording of the mailbox and shows, for each caller, what it asked and what it was answered.
+kpalumere mailbox [FILE]: plays a recording of the mailbox and shows, for each
+caller, what it asked and what it was answered.
 
-A recording is a file of calls as `kpalumere ask` reads them, a line a call; # starts a comment. It is read from FILE, or
-from standard input where FILE is - or is not given. These calls may stand in it:
-  post CALLER COMMAND DATA            a caller's post joins the line
-  load, turn, unload                  the oldest post enters the register; it is answered there; its word goes to its caller
-  take CALLER                         a caller takes its word
-  mailbox                             a fresh mailbox from here on; the recording begins with one
-  mailbox-of LINE REGISTER PLACES     the mailbox described from here on
-  firmware                            nothing is shown for it: the state of the firmware is told at the end
+A recording is a file of calls as `kpalumere ask` reads them, a line a call; #
+starts a comment. It is read from FILE, or from standard input where FILE is -
+or is not given, and has at most 67108864 bytes. These calls may stand in it:
+  post CALLER COMMAND DATA          a caller's post joins the line
+  load                              the oldest post enters the register
+  turn                              it is answered there
+  unload                            its word goes to its caller
+  take CALLER                       a caller takes its word
+  mailbox                           a fresh mailbox from here on; the recording
+                                    begins with one
+  mailbox-of LINE REGISTER PLACES   the mailbox described from here on
+  firmware                          nothing is shown for it: the state of the
+                                    firmware is told at the end
 
-For each mailbox of the recording there is a table for every caller, in the order of the calls. Beside a post stands the word
-that its caller took, with its status in words; or 'answered, not taken', or 'not answered yet'. Beside a refused call stand
-the number and the rule of document 01. Then come the steps of the register, and the state of the firmware in words.
+For each mailbox of the recording there is a table for every caller, in the
+order of the calls. Beside a post stands the word that its caller took, with its
+status in words; or 'answered, not taken', or 'not answered yet'. Beside a
+refused call stand the number and the rule of document 01. Then come the steps
+of the register, and the state of the firmware in words.
 
 Try it:
-  printf 'post 1 0x81 0\\npost 2 0x80 0\\nload\\nturn\\nunload\\ntake 1\\n' | kpalumere mailbox
-
-Status: 0 where every line was a call and none was refused, 1 where a line was no call (it is left out) or a call was refused,
-2 where the command line is wrong, 3 where the recording cannot be read or has more than 67,108,864 bytes, or the output
-cannot be written.
+  printf 'post 1 0x81 0\\npost 2 0x80 0\\nload\\nturn\\nunload\\ntake 1\\n' |
+    kpalumere mailbox
 ";
 
 /// Reads the words after `mailbox`.

@@ -6,7 +6,7 @@ mod outcome;
 mod report;
 mod sample;
 
-use crate::arguments::command::{Command, Job};
+use crate::arguments::command::{Command, Job, WRONG_WORDS};
 use crate::arguments::words::{CommandOption, Words, JSON};
 use crate::shown::page::Page;
 use crate::system::ending::Ending;
@@ -23,35 +23,47 @@ pub static COMMAND: Command = Command {
     does:
         "the firmware register of flash images: both directories, every entry, where its bytes lie",
     help: || HELP.to_string(),
+    statuses: &[
+        (0, "every image is accepted and has a boot loader"),
+        (1, "an image is refused or has no boot loader"),
+        WRONG_WORDS,
+        (3, "a file cannot be read or the output cannot be written"),
+    ],
     read,
 };
 
 /// What `register --help` prints.
 const HELP: &str = "\
-kpalumere register [--json | --csv] [--quiet] [IMAGE...]: the firmware register of flash images.
+kpalumere register [--json | --csv] [--quiet] [IMAGE...]: the firmware register
+of flash images.
 
-Of each image it shows the embedded firmware structure (EFS) and its pointers, the PSP directories of both levels, and every
-entry: its type, subprogram, size and location, where its bytes lie in the image or why they do not, and the version that
-they carry. Then it asks the whole image for the boot loader, the recovery boot loader, the secure OS and the SMU firmware,
-each with subprogram 0. An image that is refused is shown with its number and with what could be read before that.
+Of each image it shows the embedded firmware structure (EFS) and its pointers,
+the PSP directories of both levels, and every entry: its type, subprogram, size
+and location, where its bytes lie in the image or why they do not, and the
+version that they carry. Then it asks the whole image for the boot loader, the
+recovery boot loader, the secure OS and the SMU firmware, each with subprogram
+0. An image that is refused is shown with its number and with what could be read
+before that.
 
-IMAGE is a file, or - for standard input. Without IMAGE the register is that of a sample board that comes with the tool.
+IMAGE is a file, or - for standard input. Without IMAGE the register is that of
+a sample board that comes with the tool.
   --json    one JSON object; docs/REGISTER.md has its fields
   --csv     rows of comma-separated cells; docs/REGISTER.md has the columns
-  --quiet   leave out the images that are accepted; for people only those refused are shown, and the summary
+  --quiet   leave out the images that are accepted; for people only those
+            refused are shown, and the summary
   --        what follows is an IMAGE, even where it begins with a hyphen
 
-On a terminal, or where COLUMNS says how wide lines may be, tables that do not fit become lines that do. Colour is used on a
-terminal alone, and not where NO_COLOR is set.
+On a terminal, or where COLUMNS says how wide lines may be, tables that do not
+fit become lines that do. Colour is used on a terminal alone, and not where
+NO_COLOR is set.
+
+An image is refused where level 1 is; where level 2 is, unless level 1 leads to
+none; or where one of the questions meets a fault.
 
 Try it:
   kpalumere register
   kpalumere register board.rom
   kpalumere register --json *.rom
-
-Status: 0 where every image is accepted and has a boot loader, 1 where one is refused or has none, 2 where the command line is
-wrong, 3 where a file cannot be read or the output cannot be written. An image is refused where level one is; where level two
-is, unless level one leads to none; or where one of the questions meets a fault.
 ";
 
 static OPTIONS: &[CommandOption] = &[

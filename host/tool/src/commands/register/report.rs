@@ -3,9 +3,10 @@
 use super::facts::{Asked, Facts, Level, Met, Row};
 use super::outcome::{Outcome, Source, Summary};
 use crate::shown::names;
-use crate::shown::page::{kept, Look, Page};
+use crate::shown::page::{Look, Page};
 use crate::shown::refusals;
 use crate::shown::repeats;
+use crate::system::folding::kept;
 use bindings::Refusal;
 
 /// What is shown of an image.
