@@ -38,6 +38,11 @@ impl Program {
         Program::of_words("kpalumere", words)
     }
 
+    /// The tool with any words, as people start it.
+    pub fn tool_as_people_start_it() -> Program {
+        Program::of_words("kpalumere", built("kpalumere"))
+    }
+
     /// The second program.
     pub fn second() -> Program {
         Program::of_words("second", built("second"))

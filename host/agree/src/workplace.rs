@@ -1,6 +1,7 @@
 //! A folder of a test's own, in which it puts files and starts the tool as a person would.
 
-use crate::programs::{built, built_folder, run, Program, Run};
+use crate::board::Board;
+use crate::programs::{built_folder, run, Program, Run};
 use std::fs;
 use std::path::{Path, PathBuf};
 
@@ -26,6 +27,13 @@ impl Workplace {
         }
         fs::create_dir(&folder).expect("a folder can be made beside the programs");
         Workplace { folder }
+    }
+
+    /// A folder with a board in it, board.rom.
+    pub fn with_board(name: &str) -> Workplace {
+        let place = Workplace::new(name);
+        place.put("board.rom", Board::new().bytes());
+        place
     }
 
     pub fn folder(&self) -> &Path {
@@ -64,7 +72,7 @@ impl Workplace {
 
     /// Starts the tool here, with an input.
     pub fn tool_given(&self, words: &[&str], input: &[u8]) -> Outcome {
-        let mut command = Program::of_words("kpalumere", built("kpalumere")).command(&self.folder);
+        let mut command = Program::tool_as_people_start_it().command(&self.folder);
         command.args(words);
         Outcome::of(run(command, input))
     }

@@ -1,7 +1,7 @@
 //! The tool as people start it: its words, its messages, its statuses.
 
 use agree::cases;
-use agree::programs::{built, run, Program, Run};
+use agree::programs::{run, Program, Run};
 use std::ffi::OsStr;
 use std::io::Read;
 use std::process::{Command, Stdio};
@@ -17,12 +17,8 @@ fn tool(words: &[&str]) -> Run {
 }
 
 fn command(words: &[&str]) -> Command {
-    let program = built("kpalumere");
-    let mut command = Command::new(&program[0]);
-    command
-        .args(&program[1..])
-        .args(words)
-        .current_dir(cases::folder());
+    let mut command = Program::tool_as_people_start_it().command(&cases::folder());
+    command.args(words);
     command
 }
 

@@ -26,12 +26,6 @@ fn told(file: &str) -> String {
     )
 }
 
-fn with_board(name: &str) -> Workplace {
-    let place = Workplace::new(name);
-    place.put("board.rom", Board::new().bytes());
-    place
-}
-
 /// The board is as it was, and these are all the files beside it.
 fn board_is_kept(place: &Workplace, others: &[&str]) {
     assert!(place.get("board.rom") == Board::new().bytes());
@@ -42,7 +36,7 @@ fn board_is_kept(place: &Workplace, others: &[&str]) {
 
 #[test]
 fn the_bytes_of_an_entry_are_written() {
-    let place = with_board("extract");
+    let place = Workplace::with_board("extract");
     place
         .tool(&key_into("key.bin", &[]))
         .expect(0, &told("key.bin"));
@@ -61,7 +55,7 @@ fn the_bytes_of_an_entry_are_written() {
 
 #[test]
 fn an_entry_without_bytes_makes_an_empty_file_and_one_at_the_end_all_of_it() {
-    let place = with_board("extract-limits");
+    let place = Workplace::with_board("extract-limits");
     let expected =
         "\"none.bin\" holds the 0 bytes of entry 3 of level 2, 0x13 debug unlock image: \
                     none, at 0x30000 of the image\n";
@@ -87,7 +81,7 @@ fn an_entry_without_bytes_makes_an_empty_file_and_one_at_the_end_all_of_it() {
 
 #[test]
 fn what_is_refused_writes_nothing() {
-    let place = with_board("extract-refused");
+    let place = Workplace::with_board("extract-refused");
     place.put("bad.rom", Board::with(|board| board.one.wrong = 1));
     place.put(
         "repeats.rom",
@@ -150,7 +144,7 @@ fn what_is_refused_writes_nothing() {
 
 #[test]
 fn a_file_that_is_there_is_kept_unless_force_is_given() {
-    let place = with_board("extract-force");
+    let place = Workplace::with_board("extract-force");
     place.put("key.bin", "what was there");
     fs::set_permissions(place.path("key.bin"), Permissions::from_mode(0o640)).unwrap();
     place.tool(&key_into("key.bin", &[])).expect_message(
@@ -174,7 +168,7 @@ fn a_file_that_is_there_is_kept_unless_force_is_given() {
 
 #[test]
 fn the_image_is_never_written_over_by_whatever_name() {
-    let place = with_board("extract-same");
+    let place = Workplace::with_board("extract-same");
     fs::create_dir(place.path("folder")).unwrap();
     symlink("board.rom", place.path("soft")).unwrap();
     symlink("../soft", place.path("folder/softer")).unwrap();
@@ -197,7 +191,7 @@ fn the_image_is_never_written_over_by_whatever_name() {
 
 #[test]
 fn a_link_stays_a_link_and_what_it_leads_to_is_replaced() {
-    let place = with_board("extract-link");
+    let place = Workplace::with_board("extract-link");
     place.put("key.bin", "old");
     symlink("key.bin", place.path("link")).unwrap();
     let outcome = place.tool(&key_into("link", &[]));
@@ -215,7 +209,7 @@ fn a_link_stays_a_link_and_what_it_leads_to_is_replaced() {
 
 #[test]
 fn what_cannot_be_written_is_told_and_left_as_it_is() {
-    let place = with_board("extract-unwritten");
+    let place = Workplace::with_board("extract-unwritten");
     fs::create_dir(place.path("folder")).unwrap();
     symlink("nowhere", place.path("dangling")).unwrap();
     let made = Command::new("mkfifo").arg(place.path("pipe")).status();
@@ -242,7 +236,7 @@ fn what_cannot_be_written_is_told_and_left_as_it_is() {
 
 #[test]
 fn a_failure_in_the_middle_leaves_the_old_file_whole_and_no_other() {
-    let place = with_board("extract-full");
+    let place = Workplace::with_board("extract-full");
     place.put("boot.bin", "old");
     // No file may grow beyond one block of 512 bytes, so that the third kilobyte cannot be written.
     let limited = "ulimit -f 1; trap '' XFSZ; exec \"$@\"";
@@ -264,7 +258,7 @@ fn a_failure_in_the_middle_leaves_the_old_file_whole_and_no_other() {
 
 #[test]
 fn wrong_words_end_with_2_and_an_image_that_is_not_there_with_3() {
-    let place = with_board("extract-words");
+    let place = Workplace::with_board("extract-words");
     for words in [
         &["extract", "board.rom", "1", "0"][..],
         &["extract", "board.rom", "1", "0", "a", "b"],

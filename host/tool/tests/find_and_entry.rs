@@ -3,16 +3,9 @@
 use agree::board::{entry, Board, EFS, LENGTH, LEVEL_ONE, LEVEL_TWO};
 use agree::workplace::Workplace;
 
-/// A folder with a board in it.
-fn with_board(name: &str) -> Workplace {
-    let place = Workplace::new(name);
-    place.put("board.rom", Board::new().bytes());
-    place
-}
-
 #[test]
 fn an_entry_is_found_in_the_whole_image() {
-    let place = with_board("find");
+    let place = Workplace::with_board("find");
     let expected = "\
 entry 0 of level 2, whose directory begins at 0x28000 (5 entries tested)
   type        0x01, boot loader
@@ -47,7 +40,7 @@ entry 0 of level 1, whose directory begins at 0x21000 (1 entry tested)
 
 #[test]
 fn an_entry_is_found_in_one_level() {
-    let place = with_board("find-level");
+    let place = Workplace::with_board("find-level");
     let expected = "\
 entry 1 of level 2, whose directory begins at 0x28000 (2 entries tested)
   type        0x08, SMU firmware
@@ -68,7 +61,7 @@ entry 1 of level 2, whose directory begins at 0x28000 (2 entries tested)
 
 #[test]
 fn what_is_not_there_is_told_with_the_count() {
-    let place = with_board("find-none");
+    let place = Workplace::with_board("find-none");
     place
         .tool(&["find", "board.rom", "smu-firmware", "0"])
         .expect(1, "none (9 entries tested)\n");
@@ -107,7 +100,7 @@ fn what_is_not_there_is_told_with_the_count() {
 
 #[test]
 fn an_entry_is_shown_with_its_words() {
-    let place = with_board("entry");
+    let place = Workplace::with_board("entry");
     let expected = "\
 entry 3 of the 4 of level 2, whose directory begins at 0x28000
   type        0x13, debug unlock image
@@ -254,7 +247,7 @@ fn an_image_that_is_refused_is_told_with_number_and_words() {
 
 #[test]
 fn levels_and_indices_that_there_are_not_are_refused() {
-    let place = with_board("out-of-range");
+    let place = Workplace::with_board("out-of-range");
     let level = "refused 9: level, caller or command out of range\n";
     for number in ["0", "3", "4294967295"] {
         place
@@ -273,7 +266,7 @@ fn levels_and_indices_that_there_are_not_are_refused() {
 
 #[test]
 fn wrong_words_end_with_2() {
-    let place = with_board("wrong-words");
+    let place = Workplace::with_board("wrong-words");
     for words in [
         &["find"][..],
         &["find", "board.rom"],

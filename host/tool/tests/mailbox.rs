@@ -1,19 +1,13 @@
 //! `kpalumere mailbox` as people start it: what it shows of the recorded cases, its messages and its statuses.
 
 use agree::cases;
-use agree::programs::{built, run, Run};
+use agree::programs::{run, Program, Run};
 use std::fs;
-use std::process::Command;
 
 /// Plays a recording that is named, or that is given on standard input, in the folder of the cases.
 fn mailbox(words: &[&str], input: &[u8]) -> Run {
-    let program = built("kpalumere");
-    let mut command = Command::new(&program[0]);
-    command
-        .args(&program[1..])
-        .arg("mailbox")
-        .args(words)
-        .current_dir(cases::folder());
+    let mut command = Program::tool_as_people_start_it().command(&cases::folder());
+    command.arg("mailbox").args(words);
     run(command, input)
 }
 

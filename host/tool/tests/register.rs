@@ -164,12 +164,9 @@ fn write(room: &Path, name: impl AsRef<Path>, bytes: &[u8]) {
 
 /// The tool with some words, in a folder; on no terminal, and without a word on how wide one is.
 fn command(room: &Path, words: &[impl AsRef<OsStr>]) -> Command {
-    let program = built("kpalumere");
-    let mut command = Command::new(&program[0]);
+    let mut command = Program::tool_as_people_start_it().command(room);
     command
-        .args(&program[1..])
         .args(words)
-        .current_dir(room)
         .env_remove("COLUMNS")
         .env_remove("NO_COLOR");
     command

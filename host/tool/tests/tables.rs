@@ -256,8 +256,7 @@ fn expect_json(place: &Workplace, words: &[&str], status: i32, expected: &str) {
 
 #[test]
 fn programs_read_what_is_found() {
-    let place = Workplace::new("json-find");
-    place.put("board.rom", Board::new().bytes());
+    let place = Workplace::with_board("json-find");
     expect_json(
         &place,
         &["find", "board.rom", "smu-firmware", "1", "--json"],

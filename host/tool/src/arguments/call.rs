@@ -14,6 +14,10 @@ pub struct CallForm {
 }
 
 impl CallForm {
+    pub const fn new(name: &'static str, words: &'static str, gives: &'static str) -> CallForm {
+        CallForm { name, words, gives }
+    }
+
     /// Checks that a line has as many words as the call takes.
     pub fn expect_words(&self, found: usize) -> Result<(), BadLine> {
         let most = self.words.split_whitespace().count();
@@ -37,11 +41,7 @@ mod tests {
 
     #[test]
     fn a_word_in_brackets_may_be_left_out_and_no_other() {
-        let call = CallForm {
-            name: "make",
-            words: "NAME LENGTH [BYTE]",
-            gives: "",
-        };
+        let call = CallForm::new("make", "NAME LENGTH [BYTE]", "");
         let taken: Vec<usize> = (0..6).filter(|&n| call.expect_words(n).is_ok()).collect();
         assert_eq!(taken, [2, 3]);
         let reason = call.expect_words(1).unwrap_err().reason;

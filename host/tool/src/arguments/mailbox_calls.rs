@@ -6,46 +6,27 @@ use crate::arguments::numbers::{number, number16, number32};
 use crate::arguments::quoted::quoted;
 use bindings::{Mailbox, Place, Post, Register};
 
-pub const FRESH: CallForm = CallForm {
-    name: "mailbox",
-    words: "",
-    gives: "a fresh mailbox",
-};
-pub const DESCRIBED: CallForm = CallForm {
-    name: "mailbox-of",
-    words: "LINE REGISTER PLACES",
-    gives: "the mailbox described, also one that breaks the rules",
-};
-pub const POST: CallForm = CallForm {
-    name: "post",
-    words: "CALLER COMMAND DATA",
-    gives: "a caller's post joins the line",
-};
-pub const LOAD: CallForm = CallForm {
-    name: "load",
-    words: "",
-    gives: "the oldest post enters an idle register",
-};
-pub const TURN: CallForm = CallForm {
-    name: "turn",
-    words: "",
-    gives: "a command in the register becomes its response",
-};
-pub const UNLOAD: CallForm = CallForm {
-    name: "unload",
-    words: "",
-    gives: "a response goes to its caller's place",
-};
-pub const TAKE: CallForm = CallForm {
-    name: "take",
-    words: "CALLER",
-    gives: "a caller takes its word",
-};
-pub const FIRMWARE: CallForm = CallForm {
-    name: "firmware",
-    words: "",
-    gives: "the state of the firmware behind the mailbox",
-};
+pub const FRESH: CallForm = CallForm::new("mailbox", "", "a fresh mailbox");
+pub const DESCRIBED: CallForm = CallForm::new(
+    "mailbox-of",
+    "LINE REGISTER PLACES",
+    "the mailbox described, also one that breaks the rules",
+);
+pub const POST: CallForm = CallForm::new(
+    "post",
+    "CALLER COMMAND DATA",
+    "a caller's post joins the line",
+);
+pub const LOAD: CallForm = CallForm::new("load", "", "the oldest post enters an idle register");
+pub const TURN: CallForm =
+    CallForm::new("turn", "", "a command in the register becomes its response");
+pub const UNLOAD: CallForm = CallForm::new("unload", "", "a response goes to its caller's place");
+pub const TAKE: CallForm = CallForm::new("take", "CALLER", "a caller takes its word");
+pub const FIRMWARE: CallForm = CallForm::new(
+    "firmware",
+    "",
+    "the state of the firmware behind the mailbox",
+);
 
 /// All of them, in the order in which the help shows them.
 pub const FORMS: [CallForm; 8] = [FRESH, DESCRIBED, POST, LOAD, TURN, UNLOAD, TAKE, FIRMWARE];

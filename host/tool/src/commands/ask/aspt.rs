@@ -11,20 +11,19 @@ use bindings::{AsptStructure, AsptTable};
 
 pub static CALLS: [Call; 2] = [
     Call {
-        form: CallForm {
-        name: "aspt-read",
-        words: "NAME",
-        gives: "the table in the buffer's first 112 bytes",
-        },
+        form: CallForm::new(
+            "aspt-read",
+            "NAME",
+            "the table in the buffer's first 112 bytes",
+        ),
         answer: read,
     },
     Call {
-        form: CallForm {
-        name: "aspt-write",
-        words: "NAME OEM TABLE OEMREVISION CREATOR CREATORREVISION BASE PAGES S S S",
-        gives:
+        form: CallForm::new(
+            "aspt-write",
+            "NAME OEM TABLE OEMREVISION CREATOR CREATORREVISION BASE PAGES S S S",
             "write a table; S is a structure TYPE:ID:A:B:C, with - for a field that the type lacks",
-        },
+        ),
         answer: write,
     },
 ];

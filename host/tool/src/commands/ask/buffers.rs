@@ -19,51 +19,47 @@ const MOST_BYTES: u64 = 67_108_864;
 
 pub static CALLS: [Call; 6] = [
     Call {
-        form: CallForm {
-            name: "buffer",
-            words: "NAME LENGTH [BYTE]",
-            gives: "a new buffer, every byte BYTE, or 0 where none is given",
-        },
+        form: CallForm::new(
+            "buffer",
+            "NAME LENGTH [BYTE]",
+            "a new buffer, every byte BYTE, or 0 where none is given",
+        ),
         answer: buffer,
     },
     Call {
-        form: CallForm {
-            name: "file",
-            words: "NAME PATH",
-            gives: "a new buffer with the bytes of a file",
-        },
+        form: CallForm::new("file", "NAME PATH", "a new buffer with the bytes of a file"),
         answer: file,
     },
     Call {
-        form: CallForm {
-            name: "copy",
-            words: "NAME FROM",
-            gives: "a new buffer with the bytes of another",
-        },
+        form: CallForm::new(
+            "copy",
+            "NAME FROM",
+            "a new buffer with the bytes of another",
+        ),
         answer: copy,
     },
     Call {
-        form: CallForm {
-            name: "patch",
-            words: "NAME OFFSET HEX",
-            gives: "write bytes over those of a buffer",
-        },
+        form: CallForm::new(
+            "patch",
+            "NAME OFFSET HEX",
+            "write bytes over those of a buffer",
+        ),
         answer: patch,
     },
     Call {
-        form: CallForm {
-            name: "show",
-            words: "NAME OFFSET LENGTH",
-            gives: "the bytes of a part of a buffer",
-        },
+        form: CallForm::new(
+            "show",
+            "NAME OFFSET LENGTH",
+            "the bytes of a part of a buffer",
+        ),
         answer: show,
     },
     Call {
-        form: CallForm {
-            name: "digest",
-            words: "NAME",
-            gives: "the length and the FNV-1a hash of a buffer",
-        },
+        form: CallForm::new(
+            "digest",
+            "NAME",
+            "the length and the FNV-1a hash of a buffer",
+        ),
         answer: digest,
     },
 ];

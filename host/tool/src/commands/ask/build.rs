@@ -10,19 +10,19 @@ use bindings::NewEntry;
 
 pub static CALLS: [Call; 2] = [
     Call {
-        form: CallForm {
-            name: "start",
-            words: "NAME LEVEL",
-            gives: "write an empty directory at the buffer's start",
-        },
+        form: CallForm::new(
+            "start",
+            "NAME LEVEL",
+            "write an empty directory at the buffer's start",
+        ),
         answer: start,
     },
     Call {
-        form: CallForm {
-            name: "extend",
-            words: "NAME TYPE SUB SIZE LOCATION MODE",
-            gives: "add an entry to the directory at the buffer's start",
-        },
+        form: CallForm::new(
+            "extend",
+            "NAME TYPE SUB SIZE LOCATION MODE",
+            "add an entry to the directory at the buffer's start",
+        ),
         answer: extend,
     },
 ];

@@ -9,43 +9,39 @@ use crate::arguments::numbers::{number, number32, number8};
 
 pub static CALLS: [Call; 5] = [
     Call {
-        form: CallForm {
-            name: "directory",
-            words: "NAME LEVEL",
-            gives: "where the directory of a level begins, and its total",
-        },
+        form: CallForm::new(
+            "directory",
+            "NAME LEVEL",
+            "where the directory of a level begins, and its total",
+        ),
         answer: directory,
     },
     Call {
-        form: CallForm {
-            name: "entry",
-            words: "NAME LEVEL INDEX",
-            gives: "an entry of that directory",
-        },
+        form: CallForm::new("entry", "NAME LEVEL INDEX", "an entry of that directory"),
         answer: entry,
     },
     Call {
-        form: CallForm {
-            name: "bytes",
-            words: "NAME LEVEL INDEX",
-            gives: "where in the image the bytes of an entry lie",
-        },
+        form: CallForm::new(
+            "bytes",
+            "NAME LEVEL INDEX",
+            "where in the image the bytes of an entry lie",
+        ),
         answer: bytes,
     },
     Call {
-        form: CallForm {
-            name: "find",
-            words: "NAME LEVEL TYPE SUB",
-            gives: "the first entry of a type and subprogram in one directory",
-        },
+        form: CallForm::new(
+            "find",
+            "NAME LEVEL TYPE SUB",
+            "the first entry of a type and subprogram in one directory",
+        ),
         answer: find,
     },
     Call {
-        form: CallForm {
-            name: "find-image",
-            words: "NAME TYPE SUB",
-            gives: "the first entry of a type and subprogram in the whole image",
-        },
+        form: CallForm::new(
+            "find-image",
+            "NAME TYPE SUB",
+            "the first entry of a type and subprogram in the whole image",
+        ),
         answer: find_image,
     },
 ];

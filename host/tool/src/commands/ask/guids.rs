@@ -10,35 +10,31 @@ use bindings::Guid;
 
 pub static CALLS: [Call; 4] = [
     Call {
-        form: CallForm {
-            name: "guids",
-            words: "NAME",
-            gives: "the table's total and the number of its entries",
-        },
+        form: CallForm::new(
+            "guids",
+            "NAME",
+            "the table's total and the number of its entries",
+        ),
         answer: guids,
     },
     Call {
-        form: CallForm {
-            name: "guid-find",
-            words: "NAME GUID",
-            gives: "where the data of the entry nearest the footer lies",
-        },
+        form: CallForm::new(
+            "guid-find",
+            "NAME GUID",
+            "where the data of the entry nearest the footer lies",
+        ),
         answer: find,
     },
     Call {
-        form: CallForm {
-            name: "guid-start",
-            words: "NAME",
-            gives: "write a table with no entries",
-        },
+        form: CallForm::new("guid-start", "NAME", "write a table with no entries"),
         answer: start,
     },
     Call {
-        form: CallForm {
-            name: "guid-extend",
-            words: "NAME GUID HEX",
-            gives: "add an entry, farthest from the footer",
-        },
+        form: CallForm::new(
+            "guid-extend",
+            "NAME GUID HEX",
+            "add an entry, farthest from the footer",
+        ),
         answer: extend,
     },
 ];

@@ -10,27 +10,27 @@ use crate::arguments::numbers::{number, number32};
 
 pub static CALLS: [Call; 3] = [
     Call {
-        form: CallForm {
-            name: "view",
-            words: "NAME LEVEL",
-            gives: "the place that a view of the directory of a level holds",
-        },
+        form: CallForm::new(
+            "view",
+            "NAME LEVEL",
+            "the place that a view of the directory of a level holds",
+        ),
         answer: view,
     },
     Call {
-        form: CallForm {
-            name: "view-entry",
-            words: "NAME PLACE INDEX",
-            gives: "an entry, from a view with that place",
-        },
+        form: CallForm::new(
+            "view-entry",
+            "NAME PLACE INDEX",
+            "an entry, from a view with that place",
+        ),
         answer: view_entry,
     },
     Call {
-        form: CallForm {
-            name: "view-bytes",
-            words: "NAME PLACE INDEX",
-            gives: "where the bytes of an entry lie, from a view with that place",
-        },
+        form: CallForm::new(
+            "view-bytes",
+            "NAME PLACE INDEX",
+            "where the bytes of an entry lie, from a view with that place",
+        ),
         answer: view_bytes,
     },
 ];
