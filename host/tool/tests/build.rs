@@ -45,21 +45,21 @@ fn a_directory_is_written_with_its_checksum() {
     place.put("board.txt", DESCRIPTION);
     place.tool(&["build", "board.txt", "board.dir"]).expect(
         0,
-        "\"board.dir\" holds a directory of level 1, 96 bytes, entries: 5\n",
+        "\"board.dir\" holds a directory of level 1, 96 bytes, 5 entries\n",
     );
     assert_eq!(place.get("board.dir"), described().bytes());
     place
         .tool_given(&["build", "-", "given.dir"], DESCRIPTION.as_bytes())
         .expect(
             0,
-            "\"given.dir\" holds a directory of level 1, 96 bytes, entries: 5\n",
+            "\"given.dir\" holds a directory of level 1, 96 bytes, 5 entries\n",
         );
     assert_eq!(place.get("given.dir"), described().bytes());
     place
         .tool_given(&["build", "-", "empty.dir"], b"level 0x2")
         .expect(
             0,
-            "\"empty.dir\" holds a directory of level 2, 16 bytes, entries: 0\n",
+            "\"empty.dir\" holds a directory of level 2, 16 bytes, 0 entries\n",
         );
     assert_eq!(place.get("empty.dir"), Directory::of(2, vec![]).bytes());
     let names = ["board.dir", "board.txt", "empty.dir", "given.dir"];
@@ -88,7 +88,7 @@ fn a_directory_has_at_most_512_entries() {
         )
         .expect(
             0,
-            "\"full.dir\" holds a directory of level 2, 8208 bytes, entries: 512\n",
+            "\"full.dir\" holds a directory of level 2, 8208 bytes, 512 entries\n",
         );
     assert_eq!(place.get("full.dir"), Directory::of(2, entries).bytes());
     let (more, _) = different_lines(513);
@@ -170,7 +170,7 @@ fn what_the_library_refuses_is_told_with_its_line() {
     place.put("kept.dir", "kept");
     let level = "refused 9: level, caller or command out of range";
     let value = "refused 5: reserved bits set, or a value that is not allowed";
-    let misplaced = "refused 14: pointer to level two inside level two";
+    let misplaced = "refused 14: pointer to level 2 inside level 2";
     for (text, line, told) in [
         ("level 0\n1 0 0 0 4\n", 1, level),
         ("\nlevel 3\n", 2, level),

@@ -7,8 +7,8 @@ use agree::workplace::Workplace;
 fn an_entry_is_found_in_the_whole_image() {
     let place = Workplace::with_board("find");
     let expected = "\
-entry 0 of level 2, whose directory begins at 0x28000 (5 entries tested)
-  type        0x01, boot loader
+entry 0 of level 2 at 0x28000 (5 entries tested)
+  type        0x01 boot loader
   subprogram  0x00
   size        0xc00 (3072 bytes)
   location    0x1000, mode 2: from directory start
@@ -26,8 +26,8 @@ entry 0 of level 2, whose directory begins at 0x28000 (5 entries tested)
         .tool_given(&["find", "-", "boot-loader", "0"], &given)
         .expect(0, expected);
     let expected = "\
-entry 0 of level 1, whose directory begins at 0x21000 (1 entry tested)
-  type        0x00, AMD public key
+entry 0 of level 1 at 0x21000 (1 entry tested)
+  type        0x00 AMD public key
   subprogram  0x00
   size        0x240 (576 bytes)
   location    0xff022000, mode 0: physical address
@@ -42,8 +42,8 @@ entry 0 of level 1, whose directory begins at 0x21000 (1 entry tested)
 fn an_entry_is_found_in_one_level() {
     let place = Workplace::with_board("find-level");
     let expected = "\
-entry 1 of level 2, whose directory begins at 0x28000 (2 entries tested)
-  type        0x08, SMU firmware
+entry 1 of level 2 at 0x28000 (2 entries tested)
+  type        0x08 SMU firmware
   subprogram  0x01
   size        0x1000 (4096 bytes)
   location    0x2d000, mode 1: from image start
@@ -102,8 +102,8 @@ fn what_is_not_there_is_told_with_the_count() {
 fn an_entry_is_shown_with_its_words() {
     let place = Workplace::with_board("entry");
     let expected = "\
-entry 3 of the 4 of level 2, whose directory begins at 0x28000
-  type        0x13, debug unlock image
+entry 3 of level 2 at 0x28000, which has 4 entries
+  type        0x13 debug unlock image
   subprogram  0x00
   size        0x0 (0 bytes)
   location    0x30000, mode 1: from image start
@@ -113,8 +113,8 @@ entry 3 of the 4 of level 2, whose directory begins at 0x28000
         .tool(&["entry", "board.rom", "2", "3"])
         .expect(0, expected);
     let expected = "\
-entry 2 of the 5 of level 1, whose directory begins at 0x21000
-  type        0x0b, soft fuse chain
+entry 2 of level 1 at 0x21000, which has 5 entries
+  type        0x0b soft fuse chain
   subprogram  0x00
   size        0x0 (0 bytes)
   value       0x100000001
@@ -124,8 +124,8 @@ entry 2 of the 5 of level 1, whose directory begins at 0x21000
         .tool(&["entry", "board.rom", "1", "2"])
         .expect(0, expected);
     let expected = "\
-entry 4 of the 5 of level 1, whose directory begins at 0x21000
-  type        0x22, token unlock data
+entry 4 of level 1 at 0x21000, which has 5 entries
+  type        0x22 token unlock data
   subprogram  0x00
   size        0x100 (256 bytes)
   location    0x1000, mode 3: from partition start
@@ -135,8 +135,8 @@ entry 4 of the 5 of level 1, whose directory begins at 0x21000
         .tool(&["entry", "board.rom", "1", "4"])
         .expect(1, expected);
     let expected = "\
-entry 2 of the 4 of level 2, whose directory begins at 0x28000
-  type        0x5a, unnamed type
+entry 2 of level 2 at 0x28000, which has 4 entries
+  type        0x5a unnamed type
   subprogram  0x00
   size        0x101 (257 bytes)
   location    0x2ff00, mode 1: from image start
@@ -198,7 +198,7 @@ fn refused_below() -> Vec<(&'static str, Vec<u8>)> {
     let led_by = |word: u64| Board::with(|board| board.one.entries[3].word = word);
     vec![
         (
-            "refused 14: pointer to level two inside level two",
+            "refused 14: pointer to level 2 inside level 2",
             Board::with(|board| board.two.entries[0] = entry(0x40, 9, 0, 0, 0)),
         ),
         (

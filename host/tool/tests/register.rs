@@ -361,15 +361,15 @@ fn an_image_that_repeats_an_entry_is_refused_in_every_form() {
         assert_eq!((run.status, text(&run.said)), (Some(1), String::new()));
         text(&run.answers)
     };
-    let head = "\"two-repeats.rom\": refused 18: entry repeats an earlier one (level two)\n";
+    let head = "\"two-repeats.rom\": refused 18: entry repeats an earlier one (level 2)\n";
     let summary = "2 images: 1 accepted, 1 refused (1 by 18), 0 not read; \
-                   accepted without a boot loader: 0\n";
+                   0 accepted without a boot loader\n";
     for form in [&[][..], &["--quiet"]] {
         let shown = shown(form);
         assert!(shown.contains(head) && shown.ends_with(summary), "{shown}");
         assert!(
             shown.contains(
-                "  level two: refused 18: entry repeats an earlier one; \
+                "  level 2: refused 18: entry repeats an earlier one; \
                  entry 2 has the type 0x01 and subprogram 0x00 of entry 0\n"
             ),
             "{shown}"
@@ -421,26 +421,26 @@ fn many_images_have_a_summary_and_the_status_of_the_worst() {
             &["good.rom", "one-level.rom"][..],
             0,
             0,
-            "2 images: 2 accepted, 0 refused, 0 not read; accepted without a boot loader: 0",
+            "2 images: 2 accepted, 0 refused, 0 not read; 0 accepted without a boot loader",
         ),
         (
             &["good.rom", "nothing.rom", "wide.rom"],
             1,
             0,
-            "3 images: 3 accepted, 0 refused, 0 not read; accepted without a boot loader: 1",
+            "3 images: 3 accepted, 0 refused, 0 not read; 1 accepted without a boot loader",
         ),
         (
             &["good.rom", "empty.rom", "one-total.rom", "one-checksum.rom", "two-checksum.rom"],
             1,
             4,
             "5 images: 1 accepted, 4 refused (1 by 3, 2 by 4, 1 by 15), 0 not read; \
-             accepted without a boot loader: 0",
+             0 accepted without a boot loader",
         ),
         (
             &["missing.rom", "empty.rom", "good.rom"],
             3,
             1,
-            "3 images: 1 accepted, 1 refused (1 by 15), 1 not read; accepted without a boot loader: 0",
+            "3 images: 1 accepted, 1 refused (1 by 15), 1 not read; 0 accepted without a boot loader",
         ),
     ] {
         let all = tool(&room, &[&["register"], words].concat());

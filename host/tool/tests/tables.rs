@@ -156,19 +156,19 @@ fn a_guid_table_is_shown_from_the_footer_on() {
     ];
     place.put("guest.fd", guest(&entries));
     let expected = "\
-GUID table of 154 bytes (0x9a), entries: 6
+GUID table, total 0x9a (154 bytes), 6 entries
   index  GUID                                    data at  length  name
       0  00f771de-1a7e-4fcb-890e-68c77e2fb44e       0xb8       4  SEV-ES reset block
       1  4c2eb361-7d9b-4cc3-8081-127c90d3d294       0x9e       8  SEV secret block
       2  7255371f-3a3b-4b04-927b-1da6efa8d454       0x84       8  SEV hashes table
       3  dc886566-984a-4798-a75e-5585a7bf67cc       0x6e       4  OVMF SEV metadata offset
       4  e47a6535-984a-4798-865e-4685a7bf8ec2       0x58       4  OVMF TDX metadata offset
-      5  abababab-abab-abab-abab-abababababab       0x46       0  no name known
+      5  abababab-abab-abab-abab-abababababab       0x46       0  unnamed GUID
 ";
     place.tool(&["guids", "guest.fd"]).expect(0, expected);
     place
         .tool_given(&["guids", "-"], &guest(&[]))
-        .expect(0, "GUID table of 18 bytes (0x12), entries: 0\n");
+        .expect(0, "GUID table, total 0x12 (18 bytes), 0 entries\n");
 }
 
 #[test]

@@ -5,10 +5,11 @@ use crate::arguments::lines::words_of;
 use crate::arguments::numbers::{number, number32, number8};
 use crate::arguments::quoted::quoted;
 use crate::arguments::words::{Words, FORCE};
+use crate::shown::forms;
 use crate::shown::names;
 use crate::shown::refusals;
 use crate::system::ending::Ending;
-use crate::system::files;
+use crate::system::files::{self, quoted_name};
 use crate::system::messages::say;
 use crate::system::new_file;
 use crate::system::output::print;
@@ -90,7 +91,10 @@ fn run(spec: &OsStr, text: &[u8], file: &OsStr, force: bool) -> Ending {
         Ok(description) => description,
         Err(wrong) => {
             for (line, reason) in wrong {
-                say(&format!("kpalumere: {name}, line {line}: {reason}."));
+                say(&format!(
+                    "kpalumere: {}: {reason}.",
+                    forms::line(&name, line)
+                ));
             }
             say("kpalumere: nothing is written.");
             return Ending::BadLine;
@@ -100,15 +104,16 @@ fn run(spec: &OsStr, text: &[u8], file: &OsStr, force: bool) -> Ending {
         Ok(built) => built,
         Err((line, refusal)) => {
             let told = refused_words(&description, line, refusal);
-            let text = format!("{name}, line {line}: {told}; nothing is written\n");
+            let text = format!("{}: {told}; nothing is written\n", forms::line(&name, line));
             return print(&text).and(Ending::Refused);
         }
     };
     let told = format!(
-        "{file:?} holds a directory of level {}, {} bytes, entries: {}\n",
+        "{} holds a directory of level {}, {}, {}\n",
+        quoted_name(file),
         description.level.1,
-        built.bytes.len(),
-        built.total
+        forms::bytes(built.bytes.len() as u64),
+        forms::entries(built.total)
     );
     new_file::write(file, &built.bytes, force, spec, &told)
 }
@@ -220,10 +225,9 @@ fn entry_of(words: &[&[u8]]) -> Result<NewEntry, String> {
             "the level is given twice; describe each directory in a file of its own",
         )),
         _ => {
-            let amount = words.len();
-            let plural = if amount == 1 { "" } else { "s" };
+            let given = forms::counted(words.len() as u64, "word", "words");
             Err(format!(
-                "{amount} word{plural} where an entry has 5; write `TYPE SUB SIZE LOCATION MODE`, as in \
+                "{given} where an entry has 5; write `TYPE SUB SIZE LOCATION MODE`, as in \
                  `boot-loader 0 0x100 0x1000 image`"
             ))
         }

@@ -5,6 +5,7 @@ use crate::arguments::wanted_entry::WantedEntry;
 use crate::arguments::words::{Words, JSON};
 use crate::shown::answer::show;
 use crate::shown::entry::EntryShown;
+use crate::shown::forms;
 use crate::shown::json::{Fields, Json};
 use crate::shown::refusals;
 use crate::shown::repeats;
@@ -68,7 +69,9 @@ fn text(image: &[u8], wanted: WantedEntry, answer: &Answer<(Directory, EntryShow
     let WantedEntry { level, index } = wanted;
     match answer {
         Ok((Directory { place, total, .. }, shown)) => format!(
-            "entry {index} of the {total} of level {level}, whose directory begins at {place:#x}\n{}",
+            "{}, which has {}\n{}",
+            forms::entry(index, &forms::directory(level, *place)),
+            forms::entries(*total),
             shown.lines()
         ),
         Err(refusal) => format!("{}\n", repeats::told(image, *refusal)),

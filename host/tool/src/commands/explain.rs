@@ -3,7 +3,7 @@
 use crate::arguments::command::{Command, Job};
 use crate::arguments::numbers;
 use crate::arguments::words::Words;
-use crate::shown::refusals::{explained, Explained, REFUSALS};
+use crate::shown::refusals::{explained, numbered, Explained, REFUSALS};
 use crate::system::folding::folded;
 use crate::system::output::print;
 use crate::system::terminal;
@@ -77,7 +77,7 @@ fn list() -> String {
 
 /// All about one number, in lines of at most so many columns.
 fn page(known: &Explained, columns: usize) -> String {
-    let mut text = format!("refused {}: {}\n", known.number, known.title);
+    let mut text = format!("{}\n", numbered(known.number, known.title));
     for (label, words) in [
         ("It means", known.means),
         ("Usual causes", known.causes),

@@ -3,11 +3,12 @@
 use crate::arguments::command::{Command, Job, WRONG_WORDS};
 use crate::arguments::wanted_entry::WantedEntry;
 use crate::arguments::words::{Words, FORCE};
-use crate::shown::entry::{range, EntryShown};
+use crate::shown::entry::EntryShown;
+use crate::shown::forms;
 use crate::shown::names;
 use crate::shown::repeats;
 use crate::system::ending::Ending;
-use crate::system::files;
+use crate::system::files::{self, quoted_name};
 use crate::system::new_file;
 use crate::system::output::print;
 use bindings::{Answer, Entry, Part};
@@ -69,16 +70,12 @@ fn part(image: &[u8], wanted: WantedEntry) -> Answer<(Entry, Part)> {
 }
 
 fn written(file: &OsStr, wanted: WantedEntry, entry: Entry, part: Part) -> String {
-    let bytes = match part.length {
-        1 => String::from("1 byte"),
-        length => format!("{length} bytes"),
-    };
     format!(
-        "{file:?} holds the {bytes} of entry {} of level {}, {:#04x} {}: {}\n",
-        wanted.index,
-        wanted.level,
-        entry.class,
-        names::entry_type_words(entry.class),
-        range(part)
+        "{} holds the {} of {}, {}: {}\n",
+        quoted_name(file),
+        forms::bytes(part.length),
+        forms::entry(wanted.index, &forms::level(wanted.level)),
+        names::numbered_type(entry.class),
+        forms::range_of_image(part)
     )
 }

@@ -4,6 +4,7 @@ use crate::arguments::command::{Command, Job, WRONG_WORDS};
 use crate::arguments::words::{CommandOption, Words, JSON};
 use crate::shown::answer::show;
 use crate::shown::entry::EntryShown;
+use crate::shown::forms;
 use crate::shown::json::{Fields, Json};
 use crate::shown::names;
 use crate::shown::refusals;
@@ -129,30 +130,22 @@ impl Wanted {
         match directory(image, level) {
             Err(refusal) if refusal.is(Refusal::ABSENT) => {
                 format!(
-                    "none ({}; there is no directory of level {level})\n",
-                    tested_words(tested)
+                    "none ({}; there is no directory of {})\n",
+                    forms::tested(tested),
+                    forms::level(level)
                 )
             }
-            _ => format!("none ({})\n", tested_words(tested)),
+            _ => format!("none ({})\n", forms::tested(tested)),
         }
-    }
-}
-
-fn tested_words(tested: u64) -> String {
-    match tested {
-        1 => String::from("1 entry tested"),
-        _ => format!("{tested} entries tested"),
     }
 }
 
 fn text(image: &[u8], wanted: Wanted, answer: &Answer<Found>) -> String {
     match answer {
         Ok(Found { at, shown }) => format!(
-            "entry {} of level {}, whose directory begins at {:#x} ({})\n{}",
-            at.index,
-            at.level,
-            at.place,
-            tested_words(at.tested),
+            "{} ({})\n{}",
+            forms::entry(at.index, &forms::directory(at.level, at.place)),
+            forms::tested(at.tested),
             shown.lines()
         ),
         Err(Refusal {

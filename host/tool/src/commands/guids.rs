@@ -3,6 +3,7 @@
 use crate::arguments::command::{Command, Job, WRONG_WORDS};
 use crate::arguments::words::{Words, JSON};
 use crate::shown::answer::show;
+use crate::shown::forms;
 use crate::shown::json::{Fields, Json};
 use crate::shown::refusals;
 use crate::system::ending::Ending;
@@ -97,10 +98,10 @@ fn text(answer: &Answer<Table>) -> String {
         Ok(table) => table,
         Err(refusal) => return format!("{}\n", refusals::told(*refusal)),
     };
-    let total = checked.total;
     let mut text = format!(
-        "GUID table of {total} bytes ({total:#x}), entries: {}\n",
-        checked.entries
+        "GUID table, total {}, {}\n",
+        forms::size(checked.total),
+        forms::entries(checked.entries)
     );
     if !entries.is_empty() {
         text.push_str(&row("index", "GUID", "data at", "length", "name"));
@@ -112,7 +113,7 @@ fn text(answer: &Answer<Table>) -> String {
             &guid,
             &format!("{:#x}", entry.place),
             &entry.length.to_string(),
-            name_of(&guid).unwrap_or("no name known"),
+            name_of(&guid).unwrap_or("unnamed GUID"),
         ));
     }
     text
@@ -205,7 +206,10 @@ mod tests {
         let mut image = vec![0; 50];
         assert_eq!(guid_start(&mut image), Ok(()));
         let table = table_of(&image);
-        assert_eq!(text(&table), "GUID table of 18 bytes (0x12), entries: 0\n");
+        assert_eq!(
+            text(&table),
+            "GUID table, total 0x12 (18 bytes), 0 entries\n"
+        );
     }
 
     #[test]
@@ -219,8 +223,8 @@ mod tests {
         assert_eq!(
             rows,
             [
-                "0  abababab-abab-abab-abab-abababababab       0x1d       3  no name known",
-                "1  00000000-0000-0000-0000-000000000000        0xb       0  no name known",
+                "0  abababab-abab-abab-abab-abababababab       0x1d       3  unnamed GUID",
+                "1  00000000-0000-0000-0000-000000000000        0xb       0  unnamed GUID",
             ]
         );
     }

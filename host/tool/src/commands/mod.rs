@@ -33,6 +33,7 @@ mod tests {
     use crate::arguments::command::Job;
     use crate::arguments::command_line::read;
     use crate::arguments::help;
+    use crate::shown::refusals::REFUSALS;
     use std::ffi::OsString;
     use std::os::unix::ffi::OsStringExt;
 
@@ -104,6 +105,18 @@ mod tests {
             for line in text.lines() {
                 assert!(line.chars().count() <= help::COLUMNS, "{line}");
                 assert_eq!(line, line.trim_end());
+            }
+        }
+    }
+
+    #[test]
+    fn levels_are_told_in_digits() {
+        let helps = COMMANDS.iter().map(|command| help::of(command));
+        let refusals = REFUSALS.iter();
+        let refusals = refusals.flat_map(|told| [told.title, told.means, told.causes, told.look]);
+        for text in helps.chain(refusals.map(String::from)) {
+            for word in ["level one", "level two", "level-one", "level-two d"] {
+                assert!(!text.to_lowercase().contains(word), "{text}");
             }
         }
     }

@@ -1,6 +1,7 @@
 //! An entry of a directory as people and programs are shown it: its fields with their names, and where its bytes lie or why not.
 
 use crate::arguments::wanted_entry::WantedEntry;
+use crate::shown::forms;
 use crate::shown::json::{Fields, Json};
 use crate::shown::names;
 use crate::shown::refusals;
@@ -48,19 +49,20 @@ impl EntryShown {
         let location = match self.holds_a_value() {
             true => format!("  value       {location:#x}\n"),
             false => {
-                let counted = names::address_mode(mode);
-                format!("  location    {location:#x}, mode {mode}: {counted}\n")
+                let counted = names::address_mode_words(mode);
+                format!("  location    {location:#x}, {counted}\n")
             }
         };
         format!(
-            "  type        {class:#04x}, {}\n  \
+            "  type        {}\n  \
                subprogram  {subprogram:#04x}\n  \
-               size        {size:#x} ({size} bytes)\n\
+               size        {}\n\
              {location}  \
                bytes       {}\n",
-            names::entry_type_words(class),
+            names::numbered_type(class),
+            forms::size(size),
             match self.part {
-                Ok(part) => range(part),
+                Ok(part) => forms::range_of_image(part),
                 Err(refusal) => refusals::told(refusal),
             }
         )
@@ -91,15 +93,6 @@ impl EntryShown {
     }
 }
 
-/// A part of the image in words: its first and its last byte.
-pub fn range(part: Part) -> String {
-    let Part { place, length } = part;
-    match length {
-        0 => format!("none, at {place:#x} of the image"),
-        _ => format!("{place:#x} to {:#x} of the image", place + (length - 1)),
-    }
-}
-
 #[cfg(test)]
 mod tests {
     use super::*;
@@ -114,14 +107,6 @@ mod tests {
 
     fn with(part: Answer<Part>) -> EntryShown {
         EntryShown { entry: ENTRY, part }
-    }
-
-    #[test]
-    fn bytes_are_shown_from_the_first_to_the_last() {
-        let at = |place, length| range(Part { place, length });
-        assert_eq!(at(0x1000, 0x100), "0x1000 to 0x10ff of the image");
-        assert_eq!(at(0, 1), "0x0 to 0x0 of the image");
-        assert_eq!(at(7, 0), "none, at 0x7 of the image");
     }
 
     #[test]

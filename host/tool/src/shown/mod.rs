@@ -5,6 +5,7 @@ pub mod csv;
 pub mod digits;
 pub mod entry;
 pub mod first_fields;
+pub mod forms;
 pub mod json;
 pub mod names;
 pub mod page;

@@ -44,7 +44,7 @@ pub static ENTRY_TYPES: &[EntryType] = &[
     named(0x36, "agesa-6", "AGESA binary 6"),
     named(0x37, "agesa-7", "AGESA binary 7"),
     named(0x3A, "whitelist", "whitelist"),
-    named(0x40, "level-two", "level-two directory"),
+    named(0x40, "level-two", "level 2 directory"),
     named(0x52, "oem-application", "OEM application"),
 ];
 
@@ -58,6 +58,11 @@ pub fn entry_type(code: u64) -> Option<&'static EntryType> {
 /// What is shown for an entry type: its words, or that it has none.
 pub fn entry_type_words(code: u64) -> &'static str {
     entry_type(code).map_or("unnamed type", |known| known.words)
+}
+
+/// An entry type with its number before its words: `0x01 boot loader`.
+pub fn numbered_type(code: u64) -> String {
+    format!("{code:#04x} {}", entry_type_words(code))
 }
 
 /// A TYPE as people write it: a number of 8 bits, or a name of [`ENTRY_TYPES`]. The error says what to write.
@@ -114,14 +119,15 @@ pub fn read_address_mode(word: &[u8]) -> Result<u32, String> {
     }
 }
 
-/// How an entry of an address mode counts its location, in words.
-pub fn address_mode(mode: u64) -> &'static str {
-    match mode {
+/// An address mode with its number, and how an entry of it counts its location: `mode 1: from image start`.
+pub fn address_mode_words(mode: u64) -> String {
+    let counted = match mode {
         0 => "physical address",
         1 => "from image start",
         2 => "from directory start",
         _ => "from partition start",
-    }
+    };
+    format!("mode {mode}: {counted}")
 }
 
 #[cfg(test)]
@@ -181,15 +187,15 @@ mod tests {
         assert_eq!(entry_type_words(0x01), "boot loader");
         assert_eq!(entry_type_words(0x04), "unnamed type");
         assert_eq!(entry_type_words(0x101), "unnamed type");
-        let modes: Vec<&str> = (0..4).map(address_mode).collect();
-        let last = "from partition start";
+        assert_eq!(numbered_type(0x01), "0x01 boot loader");
+        assert_eq!(numbered_type(0x5A), "0x5a unnamed type");
         assert_eq!(
-            modes,
+            [0, 1, 2, 3].map(address_mode_words),
             [
-                "physical address",
-                "from image start",
-                "from directory start",
-                last
+                "mode 0: physical address",
+                "mode 1: from image start",
+                "mode 2: from directory start",
+                "mode 3: from partition start",
             ]
         );
     }

@@ -61,9 +61,10 @@ impl Page {
 
     /// One line as it is, however long.
     pub fn add_whole(&mut self, look: Look, indent: usize, line: &str) {
+        let line = on_one_line(line);
         let line = match look.code() {
             Some(code) if self.colour => format!("\x1b[{code}m{line}\x1b[0m"),
-            _ => line.to_string(),
+            _ => line,
         };
         self.text.push_str(&format!("{:indent$}{line}\n", ""));
     }

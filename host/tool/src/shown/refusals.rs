@@ -35,9 +35,9 @@ pub static REFUSALS: [Explained; 18] = [
              its header.",
         causes: "A file of another kind, an image that begins at another address than the flash \
              does, an encrypted or compressed image, or a pointer that leads to something else.",
-        look: "Bytes aa 55 aa 55 at 0xfa0000, 0xf20000, 0xe20000, 0xc20000, 0x820000 or 0x020000 \
+        look: "Bytes aa 55 aa 55 at 0xfa0000, 0xf20000, 0xe20000, 0xc20000, 0x820000 or 0x20000 \
              of the image; where the pointer leads, and the four letters there: $PSP for level \
-             one, $PL2 for level two.",
+             1, $PL2 for level 2.",
     },
     Explained {
         number: Refusal::LIMITS,
@@ -100,7 +100,7 @@ pub static REFUSALS: [Explained; 18] = [
              subprogram that no entry has, a directory that nothing leads to, or a caller \
              without a post.",
         causes: "A question for firmware that this image does not carry, or an image without \
-             level two.",
+             level 2.",
         look: "The entries of both directories, as `kpalumere register IMAGE` shows them.",
     },
     Explained {
@@ -145,17 +145,17 @@ pub static REFUSALS: [Explained; 18] = [
     },
     Explained {
         number: Refusal::MISPLACED,
-        title: "pointer to level two inside level two",
-        means: "A level-two directory has an entry of type 0x40, which belongs into level one \
-             alone.",
-        causes: "Level-one entries copied into level two, or a directory with the cookie of the \
+        title: "pointer to level 2 inside level 2",
+        means:
+            "A directory of level 2 has an entry of type 0x40, which belongs into level 1 alone.",
+        causes: "Entries of level 1 copied into level 2, or a directory with the cookie of the \
              wrong level.",
-        look: "The types of the level-two directory's entries.",
+        look: "The types of the entries of level 2.",
     },
     Explained {
         number: Refusal::IMAGE,
         title: "image empty or too long",
-        means: "A flash image has at least one byte and at most 16,777,216, the size of the \
+        means: "A flash image has at least one byte and at most 16777216, the size of the \
              window below 4 GiB.",
         causes: "An empty file, or the image of a flash of 32 MiB or more.",
         look: "The file's length. Of a larger flash, give the part of 16 MiB that holds the \
@@ -182,7 +182,7 @@ pub static REFUSALS: [Explained; 18] = [
         title: "entry repeats an earlier one",
         means: "An entry has the type and subprogram of an earlier entry of the same directory, \
              or one that is to be added has them; then nothing was written. In a PSP directory \
-             a type and subprogram may stand once; level one and level two may share them.",
+             a type and subprogram may stand once; level 1 and level 2 may share them.",
         causes: "An entry that was added where the old one was to be replaced, two directories \
              joined into one, or a maker that writes several instances of a type, which only \
              BIOS directories may have.",
@@ -200,8 +200,17 @@ pub fn explained(number: u64) -> Option<&'static Explained> {
 
 /// A refusal as every command shows it: `refused 4: checksum is wrong`.
 pub fn told(refusal: Refusal) -> String {
-    let title = explained(refusal.number).map_or("no number of document 01", |known| known.title);
-    format!("refused {}: {title}", refusal.number)
+    numbered(refusal.number, title(refusal.number))
+}
+
+/// A refusal number with the words for it: where a command knows the rule that was broken, these say it.
+pub fn numbered(number: u64, words: &str) -> String {
+    format!("refused {number}: {words}")
+}
+
+/// The few words for a number.
+pub fn title(number: u64) -> &'static str {
+    explained(number).map_or("no number of document 01", |known| known.title)
 }
 
 /// Why something was refused, as programs are told it: the number, or null where it was not refused.

@@ -51,12 +51,17 @@ pub fn read_up_to(name: &OsStr, most: u64) -> io::Result<Vec<u8>> {
     Ok(bytes)
 }
 
-/// A file's name as a message shows it.
+/// The name of a file that is read, as a message shows it; `-` is standard input.
 pub fn shown_name(name: &OsStr) -> String {
     match name == "-" {
         true => String::from("standard input"),
-        false => format!("{name:?}"),
+        false => quoted_name(name),
     }
+}
+
+/// A file's name in quotes. Whatever it has in it, it stays on its line and changes nothing of the terminal.
+pub fn quoted_name(name: &OsStr) -> String {
+    format!("{name:?}")
 }
 
 #[cfg(test)]

@@ -1,6 +1,7 @@
 //! A file that a command writes: never in the place of another one unless the user says so, and never half.
 
 use crate::system::ending::Ending;
+use crate::system::files::quoted_name;
 use crate::system::messages::say;
 use crate::system::output::print;
 use std::ffi::OsStr;
@@ -23,9 +24,10 @@ pub fn write(file: &OsStr, bytes: &[u8], force: bool, read: &OsStr, told: &str) 
 
 /// Writes the file. The error is the message to show: what is wrong, and what to do.
 fn written(file: &OsStr, bytes: &[u8], force: bool, read: &OsStr) -> Result<(), String> {
+    let name = quoted_name(file);
     if read != "-" && are_one_file(file, read) {
         return Err(format!(
-            "{file:?} is the file that is read, and is left as it is. Name another file."
+            "{name} is the file that is read, and is left as it is. Name another file."
         ));
     }
     let path = Path::new(file);
@@ -34,7 +36,7 @@ fn written(file: &OsStr, bytes: &[u8], force: bool, read: &OsStr) -> Result<(), 
             true => write_over(path, bytes),
             false => {
                 return Err(format!(
-                    "{file:?} is there already, and is left as it is. Name another file, or say \
+                    "{name} is there already, and is left as it is. Name another file, or say \
                      --force to write over this one."
                 ))
             }
@@ -43,7 +45,7 @@ fn written(file: &OsStr, bytes: &[u8], force: bool, read: &OsStr) -> Result<(), 
     };
     written.map_err(|error| {
         format!(
-            "{file:?} cannot be written: {error}. Name a file in a folder that is there, has room, \
+            "{name} cannot be written: {error}. Name a file in a folder that is there, has room, \
              and lets you write."
         )
     })

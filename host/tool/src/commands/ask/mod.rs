@@ -18,6 +18,7 @@ use crate::arguments::help::row;
 use crate::arguments::lines::{words_of, BadLine};
 use crate::arguments::quoted::quoted;
 use crate::system::ending::Ending;
+use crate::system::files::quoted_name;
 use crate::system::messages::say;
 use crate::system::opening::open;
 use buffers::Buffers;
@@ -75,15 +76,16 @@ fn read_words(words: &[OsString]) -> Result<Job, String> {
     match words {
         [] => Ok(Box::new(|| run(None))),
         [option] if option.as_bytes().starts_with(b"-") => Err(format!(
-            "ask has no option {option:?}. Name a file of calls, or none to read \
-             standard input; `kpalumere ask --help` has the calls."
+            "ask has no option {}. Name a file of calls, or none to read \
+             standard input; `kpalumere ask --help` has the calls.",
+            quoted(option.as_bytes())
         )),
         [name] => {
             let file = Some(name.clone());
             Ok(Box::new(|| run(file)))
         }
-        [_, more @ ..] => Err(format!(
-            "ask takes one file, and {} words follow it. Join the files, as in \
+        more => Err(format!(
+            "ask takes one file, and {} words are given. Join the files, as in \
              `cat A B | kpalumere ask`.",
             more.len()
         )),
@@ -114,8 +116,9 @@ fn run(file: Option<OsString>) -> Ending {
 fn unread(file: Option<&OsStr>, error: &io::Error) -> String {
     match file {
         Some(name) => format!(
-            "kpalumere: {name:?} cannot be read: {error}. Name a file of calls that can be read, \
-             or none to read standard input."
+            "kpalumere: {} cannot be read: {error}. Name a file of calls that can be read, \
+             or none to read standard input.",
+            quoted_name(name)
         ),
         None => format!(
             "kpalumere: standard input cannot be read: {error}. Name a file of calls instead: \

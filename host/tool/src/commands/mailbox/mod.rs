@@ -7,6 +7,8 @@ mod recording;
 mod report;
 
 use crate::arguments::command::{Command, Job, WRONG_WORDS};
+use crate::arguments::quoted::quoted;
+use crate::shown::forms;
 use crate::system::ending::Ending;
 use crate::system::files::{read_up_to, shown_name, MOST};
 use crate::system::messages::say;
@@ -71,16 +73,17 @@ fn read_words(words: &[OsString]) -> Result<Job, String> {
     match words {
         [] => Ok(Box::new(|| run(OsStr::new("-")))),
         [option] if option != "-" && option.as_bytes().starts_with(b"-") => Err(format!(
-            "mailbox has no option {option:?}. Name a recording, or none to read \
-             standard input; `kpalumere mailbox --help` says what a recording is."
+            "mailbox has no option {}. Name a recording, or none to read \
+             standard input; `kpalumere mailbox --help` says what a recording is.",
+            quoted(option.as_bytes())
         )),
         [name] => {
             let file = name.clone();
             Ok(Box::new(move || run(&file)))
         }
-        [_, more @ ..] => Err(format!(
-            "mailbox plays one recording, and {} words follow its name. Join the files, \
-             as in `cat A B | kpalumere mailbox`; `kpalumere mailbox --help` says more.",
+        more => Err(format!(
+            "mailbox plays one recording, and {} words are given. Join the files, as in \
+             `cat A B | kpalumere mailbox`; `kpalumere mailbox --help` says more.",
             more.len()
         )),
     }
@@ -134,9 +137,9 @@ fn unread(file: &OsStr, error: &io::Error) -> String {
 
 /// The message for a line that is no call.
 fn left_out(file: &OsStr, wrong: &WrongLine) -> String {
-    let name = shown_name(file);
     let WrongLine { line, reason } = wrong;
-    format!("kpalumere: {name}, line {line}: {reason}. The line is left out.")
+    let line = forms::line(&shown_name(file), line);
+    format!("kpalumere: {line}: {reason}. The line is left out.")
 }
 
 #[cfg(test)]

@@ -1,7 +1,7 @@
 //! `kpalumere register`: what firmware an image holds, by what the library says of it.
 
 mod facts;
-mod forms;
+mod for_programs;
 mod outcome;
 mod report;
 mod sample;
@@ -159,8 +159,8 @@ fn write_all(request: &Request, out: &mut dyn Write) -> io::Result<Ending> {
 fn before(form: Form) -> String {
     match form {
         Form::People => String::new(),
-        Form::Json => format!("{{\n \"format\": {},\n \"images\": [", forms::FORMAT),
-        Form::Csv => forms::csv_head(),
+        Form::Json => format!("{{\n \"format\": {},\n \"images\": [", for_programs::FORMAT),
+        Form::Csv => for_programs::csv_head(),
     }
 }
 
@@ -177,9 +177,12 @@ fn one(form: Form, source: &Source, outcome: &Outcome, first: bool) -> String {
         }
         Form::Json => {
             let between = if first { "" } else { "," };
-            format!("{between}\n  {}", forms::image(source, outcome).indented(2))
+            format!(
+                "{between}\n  {}",
+                for_programs::image(source, outcome).indented(2)
+            )
         }
-        Form::Csv => forms::csv_rows(source, outcome),
+        Form::Csv => for_programs::csv_rows(source, outcome),
     }
 }
 
@@ -196,7 +199,10 @@ fn after(request: &Request, summary: &Summary, shown: usize) -> String {
             }
             page.into_text()
         }
-        Form::Json => format!("\n ],\n \"summary\": {}\n}}\n", forms::summary(summary)),
+        Form::Json => format!(
+            "\n ],\n \"summary\": {}\n}}\n",
+            for_programs::summary(summary)
+        ),
         Form::Csv => String::new(),
     }
 }

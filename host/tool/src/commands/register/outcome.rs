@@ -2,6 +2,7 @@
 
 use super::facts::Facts;
 use super::sample;
+use crate::shown::refusals;
 use crate::system::ending::Ending;
 use crate::system::files;
 use std::collections::BTreeMap;
@@ -36,7 +37,8 @@ impl Outcome {
         let image = match source {
             Source::File(name) => files::read(name),
             Source::Sample => sample::board().map_err(|refusal| {
-                format!("kpalumere: the sample board cannot be made: {refusal}. This is a fault of the tool.")
+                let told = refusals::told(refusal);
+                format!("kpalumere: the sample board cannot be made: {told}. This is a fault of the tool.")
             }),
         };
         match image {

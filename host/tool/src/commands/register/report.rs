@@ -2,6 +2,7 @@
 
 use super::facts::{Asked, Facts, Level, Met, Row};
 use super::outcome::{Outcome, Source, Summary};
+use crate::shown::forms;
 use crate::shown::names;
 use crate::shown::page::{Look, Page};
 use crate::shown::refusals;
@@ -23,7 +24,7 @@ pub fn image(page: &mut Page, source: &Source, outcome: &Outcome) {
     let (look, verdict) = match refusal {
         None => (Look::Good, String::from("accepted")),
         Some((refusal, met)) => {
-            let verdict = format!("{} ({})", refusals::told(refusal), met_words(met));
+            let verdict = format!("{} ({})", told(refusal), met_words(met));
             (Look::Bad, verdict)
         }
     };
@@ -35,7 +36,12 @@ pub fn image(page: &mut Page, source: &Source, outcome: &Outcome) {
         page.add_whole(look, 0, &format!("{name}:"));
         page.add(look, 2, 2, &verdict);
     }
-    page.add(Look::Plain, 2, 2, &format!("length {} bytes", facts.length));
+    page.add(
+        Look::Plain,
+        2,
+        2,
+        &format!("length {}", forms::bytes(facts.length as u64)),
+    );
     way(page, facts);
     for level in &facts.levels {
         directory(page, facts, level);
@@ -63,8 +69,8 @@ fn met_words(met: Met) -> String {
         Met::Length => String::from("length"),
         Met::Efs => String::from("EFS"),
         Met::Pointers => String::from("pointers"),
-        Met::LevelOne => String::from("level one"),
-        Met::LevelTwo => String::from("level two"),
+        Met::LevelOne => forms::level(1),
+        Met::LevelTwo => forms::level(2),
         Met::Question(class) => {
             let words = names::entry_type_words(u64::from(class));
             format!("lookup of the {words}")
@@ -72,12 +78,17 @@ fn met_words(met: Met) -> String {
     }
 }
 
+/// A refusal, whose number stays on the line of the word before it.
+fn told(refusal: Refusal) -> String {
+    refusals::told(refusal).replacen("refused ", &kept("refused "), 1)
+}
+
 /// The way to level one: the EFS and its pointers.
 fn way(page: &mut Page, facts: &Facts) {
     let efs = match facts.efs {
         Ok(efs) => efs,
         Err(refusal) => {
-            let line = format!("EFS: {}", refusals::told(refusal));
+            let line = format!("EFS: {}", told(refusal));
             page.add(Look::Bad, 2, 2, &line);
             return;
         }
@@ -98,33 +109,34 @@ fn way(page: &mut Page, facts: &Facts) {
         page.add(Look::Plain, 2, 2, &line);
     }
     if let Err(refusal) = facts.pointer {
-        let line = format!("pointers: {}", refusals::told(refusal));
+        let line = format!("pointers: {}", told(refusal));
         page.add(Look::Bad, 2, 2, &line);
     }
 }
 
 /// A directory and its entries, or why there is none to be shown.
 fn directory(page: &mut Page, facts: &Facts, level: &Level) {
-    let name = match level.level {
-        1 => "level one",
-        _ => "level two",
-    };
+    let name = forms::level(level.level);
     let (look, line) = match level.directory {
         Ok(found) => (
             Look::Heading,
-            format!("{name} at {:#x}, entries: {}", found.place, found.total),
+            format!(
+                "{}, {}",
+                forms::directory(found.level, found.place),
+                forms::entries(found.total)
+            ),
         ),
         // What stands before it was refused with the same number, and is shown so.
         Err(_) if is_out_of_reach(facts, level) => (Look::Plain, format!("{name}: not reached")),
         Err(refusal) if level.level == 2 && refusal.is(Refusal::ABSENT) => (
             Look::Plain,
-            format!("{name}: none, for no entry of level one leads to it"),
+            format!("{name}: none, for no entry of level 1 leads to it"),
         ),
         Err(refusal) => {
             let named = level.repeat.map_or(String::new(), |repeat| {
                 format!("; {}", repeats::words(repeat))
             });
-            let line = format!("{name}: {}{named}", refusals::told(refusal));
+            let line = format!("{name}: {}{named}", told(refusal));
             (Look::Bad, line)
         }
     };
@@ -154,7 +166,7 @@ fn entries(page: &mut Page, rows: &[Row]) {
         "size",
         "location",
         "counted as",
-        "bytes in the image",
+        "bytes of the image",
         "version",
     ];
     let mut table = vec![(Look::Heading, heads.map(String::from).to_vec())];
@@ -162,11 +174,11 @@ fn entries(page: &mut Page, rows: &[Row]) {
         let entry = &row.entry;
         let cells = [
             index.to_string(),
-            type_words(entry.class),
+            names::numbered_type(entry.class),
             format!("{:#04x}", entry.subprogram),
             format!("{:#x}", entry.size),
             format!("{:#x}", entry.location),
-            names::address_mode(entry.mode).to_string(),
+            names::address_mode_words(entry.mode),
             bytes_words(row),
             row.version_words().unwrap_or_else(|| String::from("-")),
         ];
@@ -179,7 +191,7 @@ fn entries(page: &mut Page, rows: &[Row]) {
         let entry = &row.entry;
         let first = format!(
             "{} {} {}",
-            kept(&format!("{index}  {},", type_words(entry.class))),
+            kept(&format!("{index}  {},", names::numbered_type(entry.class))),
             kept(&format!("subprogram {:#04x},", entry.subprogram)),
             kept(&format!("size {:#x}", entry.size))
         );
@@ -187,7 +199,7 @@ fn entries(page: &mut Page, rows: &[Row]) {
         let second = format!(
             "{} {}; {}{}{}",
             kept(&format!("location {:#x},", entry.location)),
-            kept(names::address_mode(entry.mode)),
+            kept(&names::address_mode_words(entry.mode)),
             kept("bytes "),
             bytes_words(row),
             version.map_or(String::new(), |version| format!(
@@ -208,19 +220,11 @@ fn look_of(row: &Row) -> Look {
     }
 }
 
-fn type_words(class: u64) -> String {
-    format!("{class:#04x} {}", names::entry_type_words(class))
-}
-
 /// Where the bytes of an entry lie, or why it has none.
 fn bytes_words(row: &Row) -> String {
     match row.part {
-        Ok(part) => format!(
-            "{}, {}",
-            kept(&format!("at {:#x}", part.place)),
-            kept(&format!("length {}", part.length))
-        ),
-        Err(refusal) => refusals::told(refusal),
+        Ok(part) => kept(&forms::range(part)),
+        Err(refusal) => told(refusal),
     }
 }
 
@@ -248,27 +252,27 @@ fn questions(page: &mut Page, asked: &[Asked]) {
 fn answer_words(asked: &Asked) -> (Look, String) {
     match asked.answer {
         Ok(found) => {
+            let directory = forms::directory(found.level, found.place);
             let version = asked.row.as_ref().and_then(Row::version_words);
             let version = version.map_or(String::new(), |version| {
                 format!(", {}", kept(&format!("version {version}")))
             });
             let line = format!(
-                "{}, {}{version} {}",
-                kept(&format!("level {} at {:#x}", found.level, found.place)),
-                kept(&format!("index {}", found.index)),
+                "{}{version} {}",
+                kept(&forms::entry(found.index, &directory)),
                 tested_words(found.tested)
             );
             (Look::Plain, line)
         }
         Err(refusal) => match refusal.tested {
             Some(count) => (Look::Plain, format!("none {}", tested_words(count))),
-            None => (Look::Bad, refusals::told(refusal)),
+            None => (Look::Bad, told(refusal)),
         },
     }
 }
 
 fn tested_words(count: u64) -> String {
-    kept(&format!("(entries tested: {count})"))
+    kept(&format!("({})", forms::tested(count)))
 }
 
 /// The line over all images.
@@ -282,14 +286,9 @@ pub fn summary(page: &mut Page, summary: &Summary) {
     if !by.is_empty() {
         refused.push_str(&format!(" ({})", by.join(", ")));
     }
-    let images = if summary.images() == 1 {
-        "image"
-    } else {
-        "images"
-    };
     let line = format!(
-        "{} {images}: {} accepted, {refused}, {} not read; accepted without a boot loader: {}",
-        summary.images(),
+        "{}: {} accepted, {refused}, {} not read; {} accepted without a boot loader",
+        forms::counted(summary.images(), "image", "images"),
         summary.accepted,
         summary.unread,
         summary.without_boot_loader
