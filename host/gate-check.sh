@@ -85,6 +85,22 @@ write_repository
 take_through_steps
 expect 'a good repository passes' ended_with 8 0
 
+# Edits, without the proofs that they would wait for.
+edits_are_tried() (
+    # shellcheck source=host/setup.sh
+    . "$own/setup.sh"
+    # shellcheck source=host/steps.sh
+    . "$own/steps.sh"
+    edits_fit
+)
+stray_edit_is_named() { ! edits_are_tried >"$root/said" && grep -qF 'crates/kpalumere/must-fail/eight.edit does not fit: its old text stands 0 times' "$root/said"; }
+mkdir "$root/crates/kpalumere/must-fail"
+printf '%s\n' 'file: src/lib.rt' 'old:     7' 'new:     8' >"$root/crates/kpalumere/must-fail/eight.edit"
+expect 'an edit that fits its file is taken' edits_are_tried
+put crates/kpalumere/must-fail/eight.edit 'old:     7' 'old:     9'
+expect 'an edit that does not is named before the proofs' stray_edit_is_named
+rm -r "$root/crates/kpalumere/must-fail" "$root/said"
+
 # Each change below breaks steps of its own, so that several can be tried in one run.
 echo '// A file that no crate has.' >"$root/crates/lost.rt"
 put host/src/lib.rs 'seven, 7' 'seven, 8'

@@ -74,8 +74,27 @@ prepare_machine() {
     ! command -v rt >/dev/null || rt version
 }
 
+# Each must-fail edit fits its file: the text that it takes away stands there once. Told in a second, before the proofs, which would tell it at their end.
+edits_fit() {
+    local edit file='' line found lost=0
+    for edit in "$root"/crates/*/must-fail/*.edit; do
+        [ -e "$edit" ] || continue
+        while IFS= read -r line; do
+            case $line in
+            'file: '*) file=${edit%/must-fail/*}/${line#file: } ;;
+            'old: '*)
+                found=$(grep -oF -- "${line#old: }" "$file" 2>/dev/null | wc -l)
+                [ "$found" -eq 1 ] || { printf '%s does not fit: its old text stands %d times in %s\n' "${edit#"$root/"}" "$found" "${file#"$root/"}"; lost=1; }
+                ;;
+            esac
+        done <"$edit"
+    done
+    [ "$lost" -eq 0 ]
+}
+
 prove_everything() {
     require_rt || return
+    edits_fit || return
     choose_proof_jobs
     cd "$root" && rt ci
 }
