@@ -102,7 +102,7 @@ while IFS=: read -r crate _; do
     [ -f "crates/$crate/src/main.rt" ] || expect "docs/PROMISES.md has all of $crate, and no more" crate_is_told "$crate"
 done < <(grep -E '^[a-z0-9_]+:' crates.txt)
 expect 'docs/TRUST.md has the lines of specs/ as they are' lines_are_told
-for page in README.md docs/*.md docs/landings/*.md; do
+for page in README.md CHANGELOG.md docs/*.md docs/landings/*.md; do
     expect "what $page leads to is there" links_lead "$page"
 done
 expected

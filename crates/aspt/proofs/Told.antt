@@ -3,30 +3,30 @@ use mathlib.Core.Path.{_≡_, refl}
 use Rattle.reply.specs.Reply.{Reply, given, refused, Settled}
 use Rattle.reply.proofs.ReplyLaws.{one-by, settled}
 use Rattle.aspt.specs.declared.Table.{Table}
-use Rattle.aspt.specs.declared.Reading.{Reading}
-use Rattle.aspt.specs.declared.Reading.the-variants as reading
-use Rattle.aspt.specs.declared.Verdict.{Verdict}
-use Rattle.aspt.specs.declared.Verdict.the-variants as verdict
-use Rattle.aspt.specs.Calls.{toldReading, toldVerdict}
+use Rattle.aspt.specs.declared.TableAnswer.{TableAnswer}
+use Rattle.aspt.specs.declared.TableAnswer.the-variants as tableAnswer
+use Rattle.aspt.specs.declared.CheckAnswer.{CheckAnswer}
+use Rattle.aspt.specs.declared.CheckAnswer.the-variants as checkAnswer
+use Rattle.aspt.specs.Calls.{toldTable, toldCheck}
 
-abbrev back-reading : Reply Table → Reading
-back-reading (given t) = reading.Given t
-back-reading (refused number carried) = reading.Refused (record { number = number })
+abbrev back-table : Reply Table → TableAnswer
+back-table (given t) = tableAnswer.Given t
+back-table (refused number carried) = tableAnswer.Refused (record { number = number })
 
-reading-back : (x : Reading) → back-reading (toldReading x) ≡ x
-reading-back (reading.Given t) = refl
-reading-back (reading.Refused why) = refl
+table-back : (x : TableAnswer) → back-table (toldTable x) ≡ x
+table-back (tableAnswer.Given t) = refl
+table-back (tableAnswer.Refused why) = refl
 
-pub reading-settled : Settled toldReading
-reading-settled = settled toldReading (one-by toldReading back-reading reading-back)
+pub table-settled : Settled toldTable
+table-settled = settled toldTable (one-by toldTable back-table table-back)
 
-abbrev back-verdict : Reply Unit → Verdict
-back-verdict (given _) = verdict.Accepted
-back-verdict (refused number carried) = verdict.Refused (record { number = number })
+abbrev back-check : Reply Unit → CheckAnswer
+back-check (given _) = checkAnswer.Accepted
+back-check (refused number carried) = checkAnswer.Refused (record { number = number })
 
-verdict-back : (x : Verdict) → back-verdict (toldVerdict x) ≡ x
-verdict-back verdict.Accepted = refl
-verdict-back (verdict.Refused why) = refl
+check-back : (x : CheckAnswer) → back-check (toldCheck x) ≡ x
+check-back checkAnswer.Accepted = refl
+check-back (checkAnswer.Refused why) = refl
 
-pub verdict-settled : Settled toldVerdict
-verdict-settled = settled toldVerdict (one-by toldVerdict back-verdict verdict-back)
+pub check-settled : Settled toldCheck
+check-settled = settled toldCheck (one-by toldCheck back-check check-back)

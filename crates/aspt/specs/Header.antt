@@ -1,5 +1,6 @@
 -- Source 000, Table 3: byte length and byte offset of each field before the structures. Assumes nothing: these are definitions.
-use Rattle.aspt.specs.Field.{Field, field}
+use Prim.Native.Nat.{ℕ}
+use Rattle.le.specs.Field.{Field, field}
 
 abbrev pub signature : Field
 signature = field 4 0
@@ -40,3 +41,15 @@ pages = field 4 44
 
 abbrev pub count : Field
 count = field 4 48
+
+-- where the structures begin
+abbrev pub structures : ℕ
+structures = 52
+
+-- the table's bytes, its structures with it
+abbrev pub tableLength : ℕ
+tableLength = 112
+
+-- 'ASPT', as the signature has it
+abbrev pub aspt : ℕ
+aspt = 0x54505341

@@ -1,6 +1,5 @@
-pub mod Field
 pub mod Header
-pub mod Part
+pub mod Structure
 pub mod Rules
 pub mod Bytes
 pub mod Calls

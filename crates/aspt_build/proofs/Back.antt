@@ -1,5 +1,6 @@
 -- A table is read back from its bytes, and written again as it was read. Assumes nothing.
 use mathlib.Core.Path.{_≡_, refl, sym, ap, subst, _∙_}
+use mathlib.Core.Bool.{Bool, true}
 use mathlib.Core.List.{List, [], _∷_, _++_}
 use Prim.Native.Nat.{ℕ, _+_, _*_, _%_, _≤_, _<_}
 use native.Mathlib.Omega.{arith}
@@ -13,16 +14,17 @@ use Rattle.le.proofs.Part.{part-length, part-rest, part-bytes}
 use Rattle.le.proofs.Numbers.{held, held-again}
 use Rattle.reply.specs.Reply.{Reply, given, alone, check, then}
 use Rattle.reply.proofs.ReplyLaws.{passed, then-given}
-use Rattle.aspt.specs.Rules.{done, sumOf, spaceChecks, structuresChecks}
-use Rattle.aspt.specs.Bytes.{structureIn, foundIn, asGiven, partOf, tableWith, tableIn}
-use Rattle.aspt.specs.Calls.{headerChecks, structuresRead, tableOf, readOf, admitOf}
-use Rattle.aspt_build.specs.Write.{ownOf, partBytes, identityFields, makerFields, spaceFields, bytesWith, checksumOf, tableBytes, writeOf, writtenBy}
+use Rattle.aspt.specs.Rules.{done, sumOf, spaceChecks, structureChecks, structuresChecks}
+use Rattle.aspt.specs.Bytes.{structureIn, lengthFits, reservedZero, structurePart, tableWith, tableIn}
+use Rattle.aspt.specs.Calls.{headerChecks, partsChecks, tableOf, readOf, admitOf}
+use Rattle.aspt_build.specs.Write.{ownOf, structureBytes, identityFields, makerFields, spaceFields, bytesWith, checksumOf, tableBytes, writeOf, writtenBy}
 use Rattle.aspt.specs.Good.{GoodPart, Holds}
 use Rattle.aspt_build.specs.Back.{Narrow, ownTable, WrittenReadBack, SameAgain}
+use Rattle.aspt.specs.declared.Structure.{Structure}
 use Rattle.aspt.specs.declared.Table.{Table}
 use Rattle.aspt.proofs.Checks.{admit-then}
 use Rattle.aspt_build.proofs.Written.{table-long}
-use Rattle.aspt_build.proofs.Parts.{found-back, three-own, own-again, part-again}
+use Rattle.aspt_build.proofs.Parts.{FoundIn, found-back, three-own, own-again, structure-again}
 use Rattle.aspt.proofs.Accept.{read-acceptance}
 use Rattle.aspt_build.proofs.Accept.{write-acceptance}
 
@@ -39,7 +41,7 @@ sum-between xs ys x = omega (arith, sum-append xs (x ∷ ys))
 module _ (t : Table) where
   -- where the checksum stands
   parted : (sum : ℕ) → bytesWith sum t ≡ take 9 (bytesWith 0 t) ++ (sum % 256 ∷ drop 10 (bytesWith 0 t))
-  unfolding bytesWith partBytes bytesOf leBytes
+  unfolding bytesWith structureBytes bytesOf leBytes
   parted sum = refl
 
   sum-with : (sum : ℕ) → sumOf (bytesWith sum t) ≡ sum % 256 + sumOf (bytesWith 0 t)
@@ -57,31 +59,38 @@ module _ (t : Table) where
   sum-only : (sum : ℕ) → sum < 256 → sumOf (bytesWith sum t) % 256 ≡ 0 → sum ≡ checksumOf t
   sum-only sum small zero = omega (arith, sum-with sum)
 
+-- three structures with their length, and with zero in their reserved bytes
+found-all : {A : Type 0} (pages : ℕ) (a b c : Structure) (sized clear : ℕ → Bool) (rest : Reply A) →
+    sized 0 ≡ true → clear 0 ≡ true → sized 1 ≡ true → clear 1 ≡ true → sized 2 ≡ true → clear 2 ≡ true →
+    structuresChecks pages a b c sized clear rest ≡ structuresChecks pages a b c (λ _. true) (λ _. true) rest
+unfolding structuresChecks
+found-all pages a b c sized clear rest l0 z0 l1 z1 l2 z2 =
+    λ i. structureChecks pages [] a (l0 i) (z0 i) (structureChecks pages (a .class ∷ []) b (l1 i) (z1 i) (structureChecks pages (a .class ∷ b .class ∷ []) c (l2 i) (z2 i) rest))
+
 -- the bytes of a table, where its fields fit them
 module _ (t : Table) (narrow : Narrow t) where
   head : Held (identityFields (checksumOf t) ++ (makerFields t ++ spaceFields t)) (tableBytes t) 0
   unfolding tableBytes bytesWith
   head =
-      held (identityFields (checksumOf t) ++ (makerFields t ++ spaceFields t)) (tableBytes t) [] (partBytes (t .first) ++ (partBytes (t .second) ++ partBytes (t .third))) 0 refl refl
+      held (identityFields (checksumOf t) ++ (makerFields t ++ spaceFields t)) (tableBytes t) [] (structureBytes (t .first) ++ (structureBytes (t .second) ++ structureBytes (t .third))) 0 refl refl
       (omega arith, (omega arith, (omega arith, (omega arith, (narrow .«oem_low», (narrow .«oem_high», (narrow .«oem_table», (narrow .«oem_revision», (narrow .creator, (narrow .«creator_revision», (narrow .base, (narrow .pages, (omega arith, tt)))))))))))))
 
-  parts : (partOf 0 (tableBytes t) ≡ partBytes (t .first)) × (partOf 1 (tableBytes t) ≡ partBytes (t .second)) × (partOf 2 (tableBytes t) ≡ partBytes (t .third))
-  unfolding tableBytes bytesWith partBytes bytesOf leBytes
+  parts : (structurePart 0 (tableBytes t) ≡ structureBytes (t .first)) × (structurePart 1 (tableBytes t) ≡ structureBytes (t .second)) × (structurePart 2 (tableBytes t) ≡ structureBytes (t .third))
+  unfolding tableBytes bytesWith structureBytes bytesOf leBytes
   parts = (refl, refl, refl)
 
   -- a structure is found as it was given
-  first : foundIn (partOf 0 (tableBytes t)) ≡ asGiven (ownOf (t .first))
-  first = ap foundIn (parts .0) ∙ found-back (t .first) (narrow .first)
+  first : FoundIn (structurePart 0 (tableBytes t)) (ownOf (t .first))
+  first = subst (λ (p : List ℕ). FoundIn p (ownOf (t .first))) (sym (parts .0)) (found-back (t .first) (narrow .first))
 
-  second : foundIn (partOf 1 (tableBytes t)) ≡ asGiven (ownOf (t .second))
-  second = ap foundIn (parts .1) ∙ found-back (t .second) (narrow .second)
+  second : FoundIn (structurePart 1 (tableBytes t)) (ownOf (t .second))
+  second = subst (λ (p : List ℕ). FoundIn p (ownOf (t .second))) (sym (parts .1)) (found-back (t .second) (narrow .second))
 
-  third : foundIn (partOf 2 (tableBytes t)) ≡ asGiven (ownOf (t .third))
-  third = ap foundIn (parts .2) ∙ found-back (t .third) (narrow .third)
+  third : FoundIn (structurePart 2 (tableBytes t)) (ownOf (t .third))
+  third = subst (λ (p : List ℕ). FoundIn p (ownOf (t .third))) (sym (parts .2)) (found-back (t .third) (narrow .third))
 
   -- and so is the table
   table : tableIn (tableBytes t) ≡ ownTable t
-  unfolding foundIn
   table =
       let m = head .1 .1 .1 .1 in
       let r = m .1 .1 .1 .1 .1 .1 in
@@ -94,9 +103,9 @@ module _ (t : Table) (narrow : Narrow t) where
         «creator_revision» = m .1 .1 .1 .1 .1 .0 i;
         base = r .0 i;
         pages = r .1 .0 i;
-        first = first i .structure;
-        second = second i .structure;
-        third = third i .structure;
+        first = first .structure i;
+        second = second .structure i;
+        third = third .structure i;
       }
 
   -- the checks before the structures are those of the register space
@@ -114,10 +123,13 @@ module _ (t : Table) (narrow : Narrow t) where
   judged rest =
       let long = table-long (checksumOf t) t in
       let base = spaceChecks {A = Table} (t .base) (t .pages) in
+      let sized : ℕ → Bool = λ i. lengthFits (structurePart i (tableBytes t)) in
+      let clear : ℕ → Bool = λ i. reservedZero (structurePart i (tableBytes t)) in
       passed _ _ _ _ (le-leb 112 (length (tableBytes t ++ rest)) (omega (arith, length-append (tableBytes t) rest)))
       ∙ ap tableOf (take-at (tableBytes t) rest 112 long)
-      ∙ space (structuresRead (tableBytes t) (given (tableIn (tableBytes t))))
-      ∙ (λ i. base (structuresChecks (head .1 .1 .1 .1 .1 .1 .1 .1 .1 .1 .1 .0 i) (first i) (second i) (third i) (given (table i))))
+      ∙ space (partsChecks (tableBytes t) (given (tableIn (tableBytes t))))
+      ∙ (λ i. base (structuresChecks (head .1 .1 .1 .1 .1 .1 .1 .1 .1 .1 .1 .0 i) (first .structure i) (second .structure i) (third .structure i) sized clear (given (table i))))
+      ∙ ap base (found-all (t .pages) _ _ _ sized clear (given (ownTable t)) (first .long) (first .zero) (second .long) (second .zero) (third .long) (third .zero))
       ∙ ap base (three-own (t .pages) (t .first) (t .second) (t .third) (given (ownTable t)))
       ∙ sym (admit-then (given (ownTable t)) t)
 
@@ -131,7 +143,7 @@ written-read-back = record {
 }
 
 -- 112 bytes are the bytes before the structures and those of the structures
-split : (s : List ℕ) → length s ≡ 112 → take 52 s ++ (partOf 0 s ++ (partOf 1 s ++ partOf 2 s)) ≡ s
+split : (s : List ℕ) → length s ≡ 112 → take 52 s ++ (structurePart 0 s ++ (structurePart 1 s ++ structurePart 2 s)) ≡ s
 split s long =
     ap (λ (x : List ℕ). take 52 s ++ (take 20 (drop 52 s) ++ (take 20 (drop 72 s) ++ x))) (take-all 20 (drop 92 s) (omega (arith, length-drop 92 s)))
     ∙ ap (λ (x : List ℕ). take 52 s ++ (take 20 (drop 52 s) ++ x)) (part-rest s 72 20)
@@ -146,9 +158,9 @@ module _ (s : List ℕ) (bytes : Bytes s) (long : length s ≡ 112) (h : Holds s
       held-again (identityFields (leAt 1 s 9) ++ (makerFields (tableIn s) ++ spaceFields (tableIn s))) s 0 bytes (omega arith)
       (h .signature, (h .long, (h .revision, (refl, (refl, (refl, (refl, (refl, (refl, (refl, (refl, (refl, (h .count, tt)))))))))))))
 
-  again : (i : ℕ) → 52 + 20 * i + 20 ≤ length s → GoodPart (partOf i s) → leAt 2 (partOf i s) 0 ≤ 2 → partBytes (structureIn (partOf i s)) ≡ partOf i s
+  again : (i : ℕ) → 52 + 20 * i + 20 ≤ length s → GoodPart (structurePart i s) → leAt 2 (structurePart i s) 0 ≤ 2 → structureBytes (structureIn (structurePart i s)) ≡ structurePart i s
   again i inside good type =
-      part-again (partOf i s) good type (part-bytes s (52 + 20 * i) 20 bytes) (part-length s (52 + 20 * i) 20 inside)
+      structure-again (structurePart i s) good type (part-bytes s (52 + 20 * i) 20 bytes) (part-length s (52 + 20 * i) 20 inside)
 
   with-again : bytesWith (leAt 1 s 9) (tableIn s) ≡ s
   unfolding bytesWith
@@ -176,9 +188,9 @@ module _ (s : List ℕ) (t : Table) (e : readOf s ≡ given t) where
   own : ownTable t ≡ t
   own =
       let g = holds-in .good in
-      let first = own-again (partOf 0 (take 112 s)) (holds-in .first) (g .first .type) in
-      let second = own-again (partOf 1 (take 112 s)) (holds-in .second) (g .second .type) in
-      let third = own-again (partOf 2 (take 112 s)) (holds-in .third) (g .third .type) in
+      let first = own-again (structurePart 0 (take 112 s)) (holds-in .first) (g .first .type) in
+      let second = own-again (structurePart 1 (take 112 s)) (holds-in .second) (g .second .type) in
+      let third = own-again (structurePart 2 (take 112 s)) (holds-in .third) (g .third .type) in
       ap ownTable (holds .table) ∙ (λ i. tableWith (take 112 s) (first i) (second i) (third i)) ∙ sym (holds .table)
 
   accepted : (b : List ℕ) → 112 ≤ length b → writeOf t b ≡ done

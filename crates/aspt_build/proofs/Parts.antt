@@ -9,36 +9,43 @@ use lib.Seq.{take-all}
 use lib.Dec.{eqb}
 use borrow.Author.Tests.{eq-eqb, eqb-true, eqb-false}
 use Rattle.le.specs.Le.{leAt, Bytes, bytesOf}
-use Rattle.le.specs.Back.{Held, Fit}
+use Rattle.le.specs.Back.{Held, Fits}
 use Rattle.le.proofs.Laws.{le-split}
 use Rattle.le.proofs.Numbers.{held, held-again}
 use Rattle.reply.specs.Reply.{Reply}
+use Rattle.reply.specs.Scan.{All}
 use Rattle.aspt.specs.Rules.{idFits, inSpace, registersFit, structureChecks, structuresChecks}
-use Rattle.aspt.specs.Bytes.{structureIn, reservedZero, foundIn, asGiven}
-use Rattle.aspt_build.specs.Write.{ownOf, partFields, partBytes}
+use Rattle.aspt.specs.Bytes.{structureIn, lengthFits, reservedZero}
+use Rattle.aspt_build.specs.Write.{ownOf, structureFields, structureBytes}
 use Rattle.aspt.specs.Good.{GoodPart}
 use Rattle.aspt_build.specs.Back.{NarrowStructure}
 use Rattle.aspt.specs.declared.Structure.{Structure}
-use Rattle.aspt_build.proofs.Written.{part-long}
+use Rattle.aspt_build.proofs.Written.{structure-long}
 
 either : (b : Bool) (x y n : ℕ) → x < n → y < n → cond b x y < n
 either true x y n p q = p
 either false x y n p q = q
 
+-- a structure is found in these bytes, with its length and with zero in its reserved bytes
+pub record FoundIn (p : List ℕ) (st : Structure) : Type 0 where
+  pub structure : structureIn p ≡ st
+  pub long : lengthFits p ≡ true
+  pub zero : reservedZero p ≡ true
+
 -- what a structure's bytes hold, where they hold the fields that its type has
 module _ (st : Structure) (p : List ℕ) where
-  clear : Held (partFields (ownOf st)) p 0 → reservedZero p ≡ true
+  clear : Held (structureFields (ownOf st)) p 0 → reservedZero p ≡ true
   unfolding ownOf reservedZero
-  clear h = by (eqb (st .kind) 1) (eqb (st .kind) 2) refl refl
+  clear h = by (eqb (st .class) 1) (eqb (st .class) 2) refl refl
     where
-      by : (one two : Bool) → eqb (st .kind) 1 ≡ one → eqb (st .kind) 2 ≡ two → reservedZero p ≡ true
+      by : (one two : Bool) → eqb (st .class) 1 ≡ one → eqb (st .class) 2 ≡ two → reservedZero p ≡ true
       by true two e f = rw (h .0, e, h .1 .1 .1 .0)
       by false two e f =
           let id : leAt 1 p 4 ≡ 0 = h .1 .1 .0 ∙ ap (λ (b : Bool). cond b (st .id) 0) e in
           let four : leAt 4 p 4 ≡ 0 = omega (arith, le-split 1 3 p 4, h .1 .1 .1 .0) in
           rw (h .0, e, four) (last two f)
         where
-          last : (two : Bool) → eqb (st .kind) 2 ≡ two → cond (eqb (st .kind) 2) (eqb (leAt 8 p 12) 0) true ≡ true
+          last : (two : Bool) → eqb (st .class) 2 ≡ two → cond (eqb (st .class) 2) (eqb (leAt 8 p 12) 0) true ≡ true
           last false f = rw f
           last true f =
               let second : leAt 4 p 12 ≡ 0 = h .1 .1 .1 .1 .1 .0 ∙ ap (λ (b : Bool). cond b 0 (st .second)) f in
@@ -46,23 +53,23 @@ module _ (st : Structure) (p : List ℕ) where
               let eight : leAt 8 p 12 ≡ 0 = omega (arith, le-split 4 4 p 12) in
               rw (f, eight)
 
-  found : Held (partFields (ownOf st)) p 0 → foundIn p ≡ asGiven (ownOf st)
-  unfolding ownOf foundIn
-  found h = λ i. record {
-    structure = record { kind = h .0 i; id = h .1 .1 .0 i; first = h .1 .1 .1 .1 .0 i; second = h .1 .1 .1 .1 .1 .0 i; third = h .1 .1 .1 .1 .1 .1 .0 i };
-    sized = eq-eqb (leAt 2 p 2) 20 (h .1 .0) i;
-    clear = clear h i;
+  found : Held (structureFields (ownOf st)) p 0 → FoundIn p (ownOf st)
+  unfolding ownOf
+  found h = record {
+    structure = λ i. record { class = h .0 i; id = h .1 .1 .0 i; first = h .1 .1 .1 .1 .0 i; second = h .1 .1 .1 .1 .1 .0 i; third = h .1 .1 .1 .1 .1 .1 .0 i };
+    long = eq-eqb (leAt 2 p 2) 20 (h .1 .0);
+    zero = clear h;
   }
 
 -- a structure is read back from its bytes
-pub found-back : (st : Structure) → NarrowStructure st → foundIn (partBytes st) ≡ asGiven (ownOf st)
-unfolding partBytes ownOf
+pub found-back : (st : Structure) → NarrowStructure st → FoundIn (structureBytes st) (ownOf st)
+unfolding structureBytes ownOf
 found-back st narrow =
-    let fields = partFields (ownOf st) in
-    let one = eqb (st .kind) 1 in
-    let two = eqb (st .kind) 2 in
-    let fit : Fit fields = (
-      narrow .kind,
+    let fields = structureFields (ownOf st) in
+    let one = eqb (st .class) 1 in
+    let two = eqb (st .class) 2 in
+    let fit : All Fits fields = (
+      narrow .class,
       (
         omega arith,
         (
@@ -83,7 +90,7 @@ found-back st narrow =
 module _ {A : Type 0} (pages : ℕ) (seen : List ℕ) (st : Structure) (rest : Reply A) where
   own-id : idFits (ownOf st) ≡ idFits st
   unfolding idFits ownOf
-  own-id = by (eqb (st .kind) 1)
+  own-id = by (eqb (st .class) 1)
     where
       by : (b : Bool) → cond b (eqb (cond b (st .id) 0) 1) true ≡ cond b (eqb (st .id) 1) true
       by true = refl
@@ -91,23 +98,23 @@ module _ {A : Type 0} (pages : ℕ) (seen : List ℕ) (st : Structure) (rest : R
 
   own-registers : registersFit pages (ownOf st) ≡ registersFit pages st
   unfolding registersFit ownOf
-  own-registers = by (eqb (st .kind) 2)
+  own-registers = by (eqb (st .class) 2)
     where
       by : (b : Bool) → (inSpace pages (st .first) && cond b true (inSpace pages (cond b 0 (st .second)) && inSpace pages (cond b 0 (st .third))))
           ≡ (inSpace pages (st .first) && cond b true (inSpace pages (st .second) && inSpace pages (st .third)))
       by true = refl
       by false = refl
 
-  pub own-checks : structureChecks pages seen (asGiven (ownOf st)) rest ≡ structureChecks pages seen (asGiven st) rest
+  pub own-checks : structureChecks pages seen (ownOf st) true true rest ≡ structureChecks pages seen st true true rest
   unfolding structureChecks ownOf
   own-checks = rw (own-id, own-registers)
 
 pub three-own : {A : Type 0} (pages : ℕ) (a b c : Structure) (rest : Reply A) →
-    structuresChecks pages (asGiven (ownOf a)) (asGiven (ownOf b)) (asGiven (ownOf c)) rest ≡ structuresChecks pages (asGiven a) (asGiven b) (asGiven c) rest
+    structuresChecks pages (ownOf a) (ownOf b) (ownOf c) (λ _. true) (λ _. true) rest ≡ structuresChecks pages a b c (λ _. true) (λ _. true) rest
 unfolding structuresChecks ownOf
 three-own pages a b c rest =
     own-checks pages [] a _
-    ∙ ap (structureChecks pages [] (asGiven a)) (own-checks pages (a .kind ∷ []) b _ ∙ ap (structureChecks pages (a .kind ∷ []) (asGiven b)) (own-checks pages (a .kind ∷ b .kind ∷ []) c rest))
+    ∙ ap (structureChecks pages [] a true true) (own-checks pages (a .class ∷ []) b _ ∙ ap (structureChecks pages (a .class ∷ []) b true true) (own-checks pages (a .class ∷ b .class ∷ []) c rest))
 
 -- a good structure's bytes
 module _ (p : List ℕ) (good : GoodPart p) (type : leAt 2 p 0 ≤ 2) where
@@ -132,7 +139,7 @@ module _ (p : List ℕ) (good : GoodPart p) (type : leAt 2 p 0 ≤ 2) where
   unfolding ownOf
   own-again =
       λ i. record {
-        kind = leAt 2 p 0;
+        class = leAt 2 p 0;
         id = id (eqb (leAt 2 p 0) 1) refl i;
         first = leAt 4 p 8;
         second = second (eqb (leAt 2 p 0) 2) refl i;
@@ -152,10 +159,10 @@ module _ (p : List ℕ) (good : GoodPart p) (type : leAt 2 p 0 ≤ 2) where
       third false e = refl
 
   -- it is written as it was
-  pub part-again : Bytes p → length p ≡ 20 → partBytes (structureIn p) ≡ p
-  unfolding partBytes
-  part-again bytes long =
-      let n : length (bytesOf (partFields (structureIn p))) ≡ 20 = ap (λ (st : Structure). length (bytesOf (partFields st))) (sym own-again) ∙ part-long (structureIn p) in
-      ap (λ (st : Structure). bytesOf (partFields st)) own-again
-      ∙ held-again (partFields (structureIn p)) p 0 bytes (omega arith) (refl, (good .long, (refl, (five, (refl, (refl, (refl, tt)))))))
-      ∙ take-all (length (bytesOf (partFields (structureIn p)))) p (omega arith)
+  pub structure-again : Bytes p → length p ≡ 20 → structureBytes (structureIn p) ≡ p
+  unfolding structureBytes
+  structure-again bytes long =
+      let n : length (bytesOf (structureFields (structureIn p))) ≡ 20 = ap (λ (st : Structure). length (bytesOf (structureFields st))) (sym own-again) ∙ structure-long (structureIn p) in
+      ap (λ (st : Structure). bytesOf (structureFields st)) own-again
+      ∙ held-again (structureFields (structureIn p)) p 0 bytes (omega arith) (refl, (good .long, (refl, (five, (refl, (refl, (refl, tt)))))))
+      ∙ take-all (length (bytesOf (structureFields (structureIn p)))) p (omega arith)

@@ -7,7 +7,7 @@ use lib.ListN.{length, length-append}
 use Rattle.le.specs.Le.{leBytes, Number, bytesOf}
 use Rattle.le.proofs.Put.{length-leBytes}
 use Rattle.aspt.specs.Rules.{sumOf}
-use Rattle.aspt_build.specs.Write.{ownOf, partFields, partBytes, identityFields, makerFields, spaceFields, bytesWith}
+use Rattle.aspt_build.specs.Write.{ownOf, structureFields, structureBytes, identityFields, makerFields, spaceFields, bytesWith}
 use Rattle.aspt.specs.declared.Structure.{Structure}
 use Rattle.aspt.specs.declared.Table.{Table}
 use Rattle.aspt_build.proofs.Written.{joined-bytes, front-bytes}
@@ -142,28 +142,28 @@ module _ (t : Table) (small : t .«oem_high» < 0x1_0000) where
       ∙ sym header-split
 
 -- a structure's bytes
-module _ (st : Structure) (small : st .kind < 0x1_0000) (one : st .id < 0x100) where
-  front-sum : sumOf (leBytes 8 (st .kind + 0x14_0000 + 0x1_0000_0000 * st .id)) ≡ sumOf (leBytes 2 (st .kind)) + sumOf (leBytes 2 20) + (sumOf (leBytes 1 (st .id)) + sumOf (leBytes 3 0))
+module _ (st : Structure) (small : st .class < 0x1_0000) (one : st .id < 0x100) where
+  front-sum : sumOf (leBytes 8 (st .class + 0x14_0000 + 0x1_0000_0000 * st .id)) ≡ sumOf (leBytes 2 (st .class)) + sumOf (leBytes 2 20) + (sumOf (leBytes 1 (st .id)) + sumOf (leBytes 3 0))
   front-sum =
-      let u = leBytes 2 (st .kind) in
+      let u = leBytes 2 (st .class) in
       let v = leBytes 1 (st .id) in
-      ap sumOf (front-bytes (st .kind) (st .id) small one)
+      ap sumOf (front-bytes (st .class) (st .id) small one)
       ∙ sum-append (u ++ leBytes 2 20) (v ++ leBytes 3 0)
       ∙ (λ i. sum-append u (leBytes 2 20) i + sum-append v (leBytes 3 0) i)
 
-  part-split : sumOf (bytesOf (partFields st)) ≡
-      sumOf (leBytes 8 (st .kind + 0x14_0000 + 0x1_0000_0000 * st .id)) + (sumOf (leBytes 4 (st .first)) + sumOf (leBytes 4 (st .second))) + (sumOf (leBytes 4 (st .third)) + sumOf (leBytes 4 0))
-  part-split = sums-are (partFields st) ∙ omega (arith, same-bytes, front-sum)
+  structure-split : sumOf (bytesOf (structureFields st)) ≡
+      sumOf (leBytes 8 (st .class + 0x14_0000 + 0x1_0000_0000 * st .id)) + (sumOf (leBytes 4 (st .first)) + sumOf (leBytes 4 (st .second))) + (sumOf (leBytes 4 (st .third)) + sumOf (leBytes 4 0))
+  structure-split = sums-are (structureFields st) ∙ omega (arith, same-bytes, front-sum)
 
-  pub part-is : (a b c : ℕ) →
-      a % 65535 ≡ sumOf (leBytes 8 (st .kind + 0x14_0000 + 0x1_0000_0000 * st .id)) → b % 65535 ≡ sumOf (leBytes 4 (st .first)) + sumOf (leBytes 4 (st .second)) →
-      c % 65535 ≡ sumOf (leBytes 4 (st .third)) + sumOf (leBytes 4 0) → (a + b + c) % 65535 ≡ sumOf (bytesOf (partFields st))
-  part-is a b c ea eb ec =
-      three-sums a b c _ _ _ ea eb ec (number-most 8 (st .kind + 0x14_0000 + 0x1_0000_0000 * st .id)) (two-most (st .first) (st .second)) (two-most (st .third) 0) ∙ sym part-split
+  pub structure-is : (a b c : ℕ) →
+      a % 65535 ≡ sumOf (leBytes 8 (st .class + 0x14_0000 + 0x1_0000_0000 * st .id)) → b % 65535 ≡ sumOf (leBytes 4 (st .first)) + sumOf (leBytes 4 (st .second)) →
+      c % 65535 ≡ sumOf (leBytes 4 (st .third)) + sumOf (leBytes 4 0) → (a + b + c) % 65535 ≡ sumOf (bytesOf (structureFields st))
+  structure-is a b c ea eb ec =
+      three-sums a b c _ _ _ ea eb ec (number-most 8 (st .class + 0x14_0000 + 0x1_0000_0000 * st .id)) (two-most (st .first) (st .second)) (two-most (st .third) 0) ∙ sym structure-split
 
-part-most : (st : Structure) → sumOf (partBytes st) ≤ 5100
-unfolding partBytes bytesOf leBytes
-part-most st = sum-most (partFields (ownOf st))
+structure-most : (st : Structure) → sumOf (structureBytes st) ≤ 5100
+unfolding structureBytes bytesOf leBytes
+structure-most st = sum-most (structureFields (ownOf st))
 
 header-most : (t : Table) → sumOf (bytesOf (identityFields 0 ++ (makerFields t ++ spaceFields t))) ≤ 13260
 unfolding bytesOf leBytes
@@ -176,13 +176,13 @@ four-parts a b c d p q r s ea eb ec ed hp hq hr hs =
 
 -- all 112 bytes
 pub table-is : (t : Table) (a b c d : ℕ) → a % 65535 ≡ sumOf (bytesOf (identityFields 0 ++ (makerFields t ++ spaceFields t))) →
-    b % 65535 ≡ sumOf (partBytes (t .first)) → c % 65535 ≡ sumOf (partBytes (t .second)) → d % 65535 ≡ sumOf (partBytes (t .third)) →
+    b % 65535 ≡ sumOf (structureBytes (t .first)) → c % 65535 ≡ sumOf (structureBytes (t .second)) → d % 65535 ≡ sumOf (structureBytes (t .third)) →
     (a + b + c + d) % 65535 ≡ sumOf (bytesWith 0 t)
 unfolding bytesWith
 table-is t a b c d ea eb ec ed =
     let u = bytesOf (identityFields 0 ++ (makerFields t ++ spaceFields t)) in
-    let x = partBytes (t .first) in
-    let y = partBytes (t .second) in
-    let z = partBytes (t .third) in
-    four-parts a b c d _ _ _ _ ea eb ec ed (header-most t) (part-most (t .first)) (part-most (t .second)) (part-most (t .third))
+    let x = structureBytes (t .first) in
+    let y = structureBytes (t .second) in
+    let z = structureBytes (t .third) in
+    four-parts a b c d _ _ _ _ ea eb ec ed (header-most t) (structure-most (t .first)) (structure-most (t .second)) (structure-most (t .third))
     ∙ sym (sum-append u (x ++ (y ++ z)) ∙ ap (λ (k : ℕ). sumOf u + k) (sum-append x (y ++ z) ∙ ap (λ (k : ℕ). sumOf x + k) (sum-append y z)))

@@ -5,14 +5,14 @@ use Prim.Native.Nat.{ℕ}
 use Rattle.reply.specs.Reply.{given}
 use Rattle.le.specs.Le.{leAt, leBytes, bytesOf}
 use Rattle.aspt.specs.Rules.{sumOf, fresh, idFits, registersFit, structureChecks, structuresChecks}
-use Rattle.aspt.specs.Bytes.{reservedZero, foundIn}
-use Rattle.aspt_build.specs.Write.{ownOf, partBytes, bytesWith, tableBytes}
+use Rattle.aspt.specs.Bytes.{reservedZero}
+use Rattle.aspt_build.specs.Write.{ownOf, structureBytes, bytesWith, tableBytes}
 use Rattle.aspt.specs.Calls.{headerChecks, tableOf, readOf}
 use Rattle.aspt.specs.declared.Structure.{Structure}
 use Rattle.aspt.specs.declared.Table.{Table}
 
 abbrev structure : ℕ → ℕ → ℕ → ℕ → ℕ → Structure
-structure kind id first second third = record { kind = kind; id = id; first = first; second = second; third = third }
+structure class id first second third = record { class = class; id = id; first = first; second = second; third = third }
 
 -- 'AMDINC', 'AMDICRB', types 2, 0 and 1, with a given structure of type 2
 abbrev tried : Structure → Table
@@ -41,10 +41,10 @@ bytes =
 
 -- fields that type 2 lacks are not written
 pub written-right : tableBytes (tried (structure 2 7 0x30 8 9)) ≡ bytes
-unfolding tableBytes bytesWith partBytes ownOf bytesOf leBytes sumOf
+unfolding tableBytes bytesWith structureBytes ownOf bytesOf leBytes sumOf
 written-right = refl
 
 -- they are read as 0, and bytes behind the table are not read
 pub read-right : readOf (bytes ++ (1 ∷ 2 ∷ [])) ≡ given (tried (structure 2 0 0x30 0 0))
-unfolding readOf tableOf headerChecks structuresChecks structureChecks foundIn reservedZero idFits registersFit fresh sumOf leAt
+unfolding readOf tableOf headerChecks structuresChecks structureChecks reservedZero idFits registersFit fresh sumOf leAt
 read-right = refl

@@ -9,7 +9,7 @@ use borrow.Rule.Slice.PartMut.{putMid}
 use Rattle.le.specs.Le.{leBytes, putBytes, bytesOf}
 use Rattle.le.proofs.Put.{put-some, put-join, bytes-split}
 use Rattle.le.proofs.Back.{put-long}
-use Rattle.aspt_build.specs.Write.{partFields, partBytes, identityFields, makerFields, spaceFields, bytesWith}
+use Rattle.aspt_build.specs.Write.{structureFields, structureBytes, identityFields, makerFields, spaceFields, bytesWith}
 use Rattle.aspt.specs.declared.Structure.{Structure}
 use Rattle.aspt.specs.declared.Table.{Table}
 
@@ -44,28 +44,28 @@ module _ (u v w a b c s : List ℕ) (lu : length u ≡ 10) (lv : length v ≡ 26
       ∙ part-behind (u ++ v ++ w ++ a ++ b) c s 92 20 l5 lc (omega arith)
 
 -- all bytes have their number
-pub part-long : (st : Structure) → length (partBytes st) ≡ 20
-unfolding partBytes bytesOf leBytes
-part-long st = refl
+pub structure-long : (st : Structure) → length (structureBytes st) ≡ 20
+unfolding structureBytes bytesOf leBytes
+structure-long st = refl
 
 pub table-long : (sum : ℕ) (t : Table) → length (bytesWith sum t) ≡ 112
-unfolding bytesWith partBytes bytesOf leBytes
+unfolding bytesWith structureBytes bytesOf leBytes
 table-long sum t = refl
 
 module _ (sum : ℕ) (t : Table) (s : List ℕ) (h : 112 ≤ length s) where
   pub fields-written :
       putMid 92 20 (putMid 72 20 (putMid 52 20
       (putBytes (bytesOf (spaceFields t)) (putBytes (bytesOf (makerFields t)) (putBytes (bytesOf (identityFields sum)) s 0) 10) 36)
-      (partBytes (t .first))) (partBytes (t .second))) (partBytes (t .third))
+      (structureBytes (t .first))) (structureBytes (t .second))) (structureBytes (t .third))
       ≡ bytesWith sum t ++ drop 112 s
-  unfolding bytesWith partBytes bytesOf leBytes
+  unfolding bytesWith structureBytes bytesOf leBytes
   fields-written =
       let u = bytesOf (identityFields sum) in
       let v = bytesOf (makerFields t) in
       let w = bytesOf (spaceFields t) in
-      let a = partBytes (t .first) in
-      let b = partBytes (t .second) in
-      let c = partBytes (t .third) in
+      let a = structureBytes (t .first) in
+      let b = structureBytes (t .second) in
+      let c = structureBytes (t .third) in
       six u v w a b c s refl refl refl refl refl refl h ∙ put-some (u ++ v ++ w ++ a ++ b ++ c) s 0 h
 
 -- two numbers of four bytes as one of eight
@@ -77,18 +77,18 @@ joined-bytes low high h =
     bytes-split 4 4 x ∙ (λ i. leBytes 4 (l i) ++ leBytes 4 (u i))
 
 -- a structure's first eight bytes as one number
-pub front-bytes : (kind id : ℕ) → kind < 0x1_0000 → id < 0x100 →
-    leBytes 8 (kind + 0x14_0000 + 0x1_0000_0000 * id) ≡ (leBytes 2 kind ++ leBytes 2 20) ++ (leBytes 1 id ++ leBytes 3 0)
-front-bytes kind id hk hi =
-    let l : (kind + 0x14_0000) % 0x1_0000 ≡ kind = omega arith in
-    let u : (kind + 0x14_0000) / 0x1_0000 ≡ 20 = omega arith in
+pub front-bytes : (class id : ℕ) → class < 0x1_0000 → id < 0x100 →
+    leBytes 8 (class + 0x14_0000 + 0x1_0000_0000 * id) ≡ (leBytes 2 class ++ leBytes 2 20) ++ (leBytes 1 id ++ leBytes 3 0)
+front-bytes class id hk hi =
+    let l : (class + 0x14_0000) % 0x1_0000 ≡ class = omega arith in
+    let u : (class + 0x14_0000) / 0x1_0000 ≡ 20 = omega arith in
     let b : id % 0x100 ≡ id = omega arith in
     let z : id / 0x100 ≡ 0 = omega arith in
-    joined-bytes (kind + 0x14_0000) id (omega arith)
-    ∙ (λ i. bytes-split 2 2 (kind + 0x14_0000) i ++ bytes-split 1 3 id i)
+    joined-bytes (class + 0x14_0000) id (omega arith)
+    ∙ (λ i. bytes-split 2 2 (class + 0x14_0000) i ++ bytes-split 1 3 id i)
     ∙ (λ i. (leBytes 2 (l i) ++ leBytes 2 (u i)) ++ (leBytes 1 (b i) ++ leBytes 3 (z i)))
 
-pub part-written : (st : Structure) → st .kind < 0x1_0000 → st .id < 0x100 → st .first < 0x1_0000_0000 →
-    leBytes 8 (st .kind + 0x14_0000 + 0x1_0000_0000 * st .id) ++ (leBytes 8 (st .first + 0x1_0000_0000 * st .second) ++ (leBytes 4 (st .third) ++ [])) ≡ bytesOf (partFields st)
+pub structure-written : (st : Structure) → st .class < 0x1_0000 → st .id < 0x100 → st .first < 0x1_0000_0000 →
+    leBytes 8 (st .class + 0x14_0000 + 0x1_0000_0000 * st .id) ++ (leBytes 8 (st .first + 0x1_0000_0000 * st .second) ++ (leBytes 4 (st .third) ++ [])) ≡ bytesOf (structureFields st)
 unfolding bytesOf leBytes
-part-written st hk hi hf = λ i. front-bytes (st .kind) (st .id) hk hi i ++ (joined-bytes (st .first) (st .second) hf i ++ (leBytes 4 (st .third) ++ []))
+structure-written st hk hi hf = λ i. front-bytes (st .class) (st .id) hk hi i ++ (joined-bytes (st .first) (st .second) hf i ++ (leBytes 4 (st .third) ++ []))

@@ -5,6 +5,7 @@ use mathlib.Core.List.{List, _++_}
 use lib.ListN.{length, take, drop}
 use Rattle.le.specs.Le.{Bytes}
 use Rattle.reply.specs.Reply.{given, then}
+use Rattle.aspt.specs.Header.{tableLength}
 use Rattle.aspt.specs.Rules.{done}
 use Rattle.aspt.specs.Calls.{readOf, admitOf}
 use Rattle.aspt_build.specs.Write.{ownOf, tableBytes, writeOf, writtenBy}
@@ -13,7 +14,7 @@ use Rattle.aspt.specs.declared.Table.{Table}
 
 -- every field of a structure fits its bytes
 pub record NarrowStructure (st : Structure) : Type 0 where
-  pub kind : st .kind < 2 ^ 16
+  pub class : st .class < 2 ^ 16
   pub id : st .id < 2 ^ 8
   pub first : st .first < 2 ^ 32
   pub second : st .second < 2 ^ 32
@@ -59,6 +60,6 @@ pub record WrittenReadBack : Type 0 where
 -- that were read, and over those bytes changes nothing
 pub record SameAgain : Type 0 where
   pub own : (s : List ℕ) (t : Table) → readOf s ≡ given t → ownTable t ≡ t
-  pub accepted : (s b : List ℕ) (t : Table) → readOf s ≡ given t → 112 ≤ length b → writeOf t b ≡ done
-  pub bytes : (s b : List ℕ) (t : Table) → Bytes s → readOf s ≡ given t → writtenBy t b done ≡ take 112 s ++ drop 112 b
+  pub accepted : (s b : List ℕ) (t : Table) → readOf s ≡ given t → tableLength ≤ length b → writeOf t b ≡ done
+  pub bytes : (s b : List ℕ) (t : Table) → Bytes s → readOf s ≡ given t → writtenBy t b done ≡ take tableLength s ++ drop tableLength b
   pub over : (s : List ℕ) (t : Table) → Bytes s → readOf s ≡ given t → writtenBy t s (writeOf t s) ≡ s

@@ -5,24 +5,26 @@ ghost use mathlib.Core.List.{_++_};
 ghost use lib.ListN.{length, drop};
 ghost use Prim.Native.Nat.{_+_, _*_, _/_, _%_, _≤_};
 ghost use Rattle.le.specs.Le.{leBytes, putBytes, bytesOf};
+ghost use Rattle.aspt.specs.Header.{tableLength};
+ghost use Rattle.aspt.specs.Structure.{structureLength};
 ghost use Rattle.aspt.specs.Rules.{sumOf};
-ghost use Rattle.aspt.specs.Calls.{toldVerdict};
-ghost use Rattle.aspt_build.specs.Write.{ownOf, partFields, identityFields, makerFields, spaceFields, checksumOf, tableBytes, writeOf, writtenBy};
+ghost use Rattle.aspt.specs.Calls.{toldCheck};
+ghost use Rattle.aspt_build.specs.Write.{ownOf, structureFields, identityFields, makerFields, spaceFields, checksumOf, tableBytes, writeOf, writtenBy};
+use aspt::CheckAnswer;
 use aspt::Structure;
 use aspt::Table;
-use aspt::Verdict;
 use reply::Refusal;
 
 // A structure with the fields that its type has, and 0 in those that it lacks.
 fn own(st: Structure) -> Structure
     ensures { λ r. ⌜ r ≡ ownOf st ⌝ }
 {
-    if st.kind == Structure::SEV {
+    if st.class == Structure::SEV {
         return st;
     }
-    if st.kind == Structure::ACPI {
+    if st.class == Structure::ACPI {
         return Structure {
-            kind: st.kind,
+            class: st.class,
             id: 0,
             first: st.first,
             second: 0,
@@ -30,7 +32,7 @@ fn own(st: Structure) -> Structure
         };
     }
     Structure {
-        kind: st.kind,
+        class: st.class,
         id: 0,
         first: st.first,
         second: st.second,
@@ -66,9 +68,9 @@ fn joined(low: u32, high: u32) -> u64
 
 // A structure's type, its length 20, its ID byte and three zeros, which are its first eight bytes, as one number.
 fn front(st: Structure) -> u64
-    ensures { λ r. ⌜ r ≡ st .kind + 0x14_0000 + 0x1_0000_0000 * st .id ⌝ }
+    ensures { λ r. ⌜ r ≡ st .class + 0x14_0000 + 0x1_0000_0000 * st .id ⌝ }
 {
-    (st.kind as u64) + 0x14_0000 + 0x1_0000_0000 * (st.id as u64)
+    (st.class as u64) + 0x14_0000 + 0x1_0000_0000 * (st.id as u64)
 }
 
 // The bytes of two numbers of four bytes, added up like those of one of eight.
@@ -94,8 +96,8 @@ fn header_pairs(t: Table) -> u64
 }
 
 // A structure's bytes, added up in the same way.
-fn part_pairs(st: Structure) -> u64
-    ensures { λ r. ⌜ r % 65535 ≡ sumOf (bytesOf (partFields st)) ⌝ }
+fn structure_pairs(st: Structure) -> u64
+    ensures { λ r. ⌜ r % 65535 ≡ sumOf (bytesOf (structureFields st)) ⌝ }
     ensures { λ r. ⌜ r ≤ 0x5FA_05FA_05FA_05FA ⌝ }
 {
     pairs(front(st)) + joined_pairs(st.first, st.second) + joined_pairs(st.third, 0)
@@ -107,58 +109,59 @@ fn checksum(t: Table, a: Structure, b: Structure, c: Structure) -> u8
     requires { ⌜ (a ≡ ownOf (t .first)) × (b ≡ ownOf (t .second)) × (c ≡ ownOf (t .third)) ⌝ }
     ensures { λ r. ⌜ r ≡ checksumOf t ⌝ }
 {
-    let sum = (header_pairs(t) + part_pairs(a) + part_pairs(b) + part_pairs(c)) % 65535;
+    let sum = (header_pairs(t) + structure_pairs(a) + structure_pairs(b) + structure_pairs(c))
+        % 65535;
     ((256 - sum % 256) % 256) as u8
 }
 
 // Writes a structure's 20 bytes.
 fn put_structure(part: &mut [u8], st: Structure)
-    requires { ⌜ length (now part) ≡ 20 ⌝ }
-    ensures { λ _. ⌜ now (part .exit) ≡ bytesOf (partFields st) ⌝ }
+    requires { ⌜ length (now part) ≡ structureLength ⌝ }
+    ensures { λ _. ⌜ now (part .exit) ≡ bytesOf (structureFields st) ⌝ }
 {
-    le::put64(part, 0, front(st));
-    le::put64(part, 8, joined(st.first, st.second));
-    le::put32(part, 16, st.third);
+    le::put64(part, Structure::CLASS, front(st));
+    le::put64(part, Structure::FIRST, joined(st.first, st.second));
+    le::put32(part, Structure::THIRD, st.third);
 }
 
 // Writes what the table is: signature, length, revision and checksum.
 fn put_identity(buf: &mut [u8], sum: u8)
-    requires { ⌜ 112 ≤ length (now buf) ⌝ }
+    requires { ⌜ tableLength ≤ length (now buf) ⌝ }
     ensures { λ _. ⌜ now (buf .exit) ≡ putBytes (bytesOf (identityFields sum)) (now (buf .entry)) 0 ⌝ }
 {
-    le::put32(buf, 0, Table::SIGNATURE);
-    le::put32(buf, 4, 112);
-    le::put8(buf, 8, 2);
-    le::put8(buf, 9, sum);
+    le::put32(buf, Table::SIGNATURE, Table::ASPT);
+    le::put32(buf, Table::WHOLE_LENGTH, Table::LENGTH as u32);
+    le::put8(buf, Table::REVISION, 2);
+    le::put8(buf, Table::CHECKSUM, sum);
 }
 
 // Writes who made the table.
 fn put_maker(buf: &mut [u8], table: Table)
-    requires { ⌜ 112 ≤ length (now buf) ⌝ }
+    requires { ⌜ tableLength ≤ length (now buf) ⌝ }
     ensures { λ _. ⌜ now (buf .exit) ≡ putBytes (bytesOf (makerFields table)) (now (buf .entry)) 10 ⌝ }
 {
-    le::put32(buf, 10, table.oem_low);
-    le::put16(buf, 14, table.oem_high);
-    le::put64(buf, 16, table.oem_table);
-    le::put32(buf, 24, table.oem_revision);
-    le::put32(buf, 28, table.creator);
-    le::put32(buf, 32, table.creator_revision);
+    le::put32(buf, Table::OEM_LOW, table.oem_low);
+    le::put16(buf, Table::OEM_HIGH, table.oem_high);
+    le::put64(buf, Table::OEM_TABLE, table.oem_table);
+    le::put32(buf, Table::OEM_REVISION, table.oem_revision);
+    le::put32(buf, Table::CREATOR, table.creator);
+    le::put32(buf, Table::CREATOR_REVISION, table.creator_revision);
 }
 
 // Writes the register space, and how many structures follow.
 fn put_space(buf: &mut [u8], table: Table)
-    requires { ⌜ 112 ≤ length (now buf) ⌝ }
+    requires { ⌜ tableLength ≤ length (now buf) ⌝ }
     ensures { λ _. ⌜ now (buf .exit) ≡ putBytes (bytesOf (spaceFields table)) (now (buf .entry)) 36 ⌝ }
 {
-    le::put64(buf, 36, table.base);
-    le::put32(buf, 44, table.pages);
-    le::put32(buf, 48, 3);
+    le::put64(buf, Table::BASE, table.base);
+    le::put32(buf, Table::PAGES, table.pages);
+    le::put32(buf, Table::COUNT, 3);
 }
 
 // Writes the table's 112 bytes. What the structures have is found once, for the checksum and for the bytes.
 fn put_table(buf: &mut [u8], table: Table)
-    requires { ⌜ 112 ≤ length (now buf) ⌝ }
-    ensures { λ _. ⌜ now (buf .exit) ≡ tableBytes table ++ drop 112 (now (buf .entry)) ⌝ }
+    requires { ⌜ tableLength ≤ length (now buf) ⌝ }
+    ensures { λ _. ⌜ now (buf .exit) ≡ tableBytes table ++ drop tableLength (now (buf .entry)) ⌝ }
 {
     let a = own(table.first);
     let b = own(table.second);
@@ -166,24 +169,24 @@ fn put_table(buf: &mut [u8], table: Table)
     put_identity(buf, checksum(table, a, b, c));
     put_maker(buf, table);
     put_space(buf, table);
-    put_structure(&mut buf[52..72], a);
-    put_structure(&mut buf[72..92], b);
-    put_structure(&mut buf[92..112], c);
+    put_structure(&mut buf[Table::FIRST..Table::SECOND], a);
+    put_structure(&mut buf[Table::SECOND..Table::THIRD], b);
+    put_structure(&mut buf[Table::THIRD..Table::LENGTH], c);
 }
 
 // Writes a table into the buffer's first 112 bytes and keeps the bytes after them; a refused write changes nothing.
-pub fn write(buf: &mut [u8], table: Table) -> Verdict
-    ensures { λ r. ⌜ toldVerdict r ≡ writeOf table (now (buf .entry)) ⌝ }
+pub fn write(buf: &mut [u8], table: Table) -> CheckAnswer
+    ensures { λ r. ⌜ toldCheck r ≡ writeOf table (now (buf .entry)) ⌝ }
     ensures { λ _. ⌜ now (buf .exit) ≡ writtenBy table (now (buf .entry)) (writeOf table (now (buf .entry))) ⌝ }
 {
     match aspt::admit(table) {
-        Verdict::Refused(why) => Verdict::Refused(why),
-        Verdict::Accepted => {
-            if buf.len() < 112 {
-                return Verdict::Refused(Refusal::ROOM);
+        CheckAnswer::Refused(why) => CheckAnswer::Refused(why),
+        CheckAnswer::Accepted => {
+            if buf.len() < Table::LENGTH {
+                return CheckAnswer::Refused(Refusal::ROOM);
             }
             put_table(buf, table);
-            Verdict::Accepted
+            CheckAnswer::Accepted
         }
     }
 }

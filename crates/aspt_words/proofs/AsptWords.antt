@@ -29,10 +29,10 @@ module _ (words s : List ℕ) (enough : 22 ≤ length words) where
 
 -- a table is taken as it was laid out
 structure-taken : (st : Structure) → NarrowStructure st →
-    record { kind = st .kind % 2 ^ 16; id = st .id % 2 ^ 8; first = st .first % 2 ^ 32; second = st .second % 2 ^ 32; third = st .third % 2 ^ 32 } ≡ st
+    record { class = st .class % 2 ^ 16; id = st .id % 2 ^ 8; first = st .first % 2 ^ 32; second = st .second % 2 ^ 32; third = st .third % 2 ^ 32 } ≡ st
 structure-taken st narrow =
     λ i. record {
-      kind = mod-eq-of-lt (narrow .kind) i;
+      class = mod-eq-of-lt (narrow .class) i;
       id = mod-eq-of-lt (narrow .id) i;
       first = mod-eq-of-lt (narrow .first) i;
       second = mod-eq-of-lt (narrow .second) i;

@@ -13,7 +13,7 @@ use Rattle.aspt_build.specs.Back.{Narrow}
 
 -- a structure: five words, its type, ID byte and register offsets
 abbrev pub layStructure : Structure → List ℕ
-layStructure st = st .kind ∷ st .id ∷ st .first ∷ st .second ∷ st .third ∷ []
+layStructure st = st .class ∷ st .id ∷ st .first ∷ st .second ∷ st .third ∷ []
 
 -- a table: twenty-two words, the OEM ID, the OEM table ID, the OEM revision, the creator's ID and revision, the base address, the pages, and the three structures
 abbrev pub layTable : Table → List ℕ
@@ -22,9 +22,9 @@ layTable t =
     ∷ (layStructure (t .first) ++ (layStructure (t .second) ++ layStructure (t .third)))
 
 -- the structure in the five words from word i on, each cut to its field
-abbrev pub structureFrom : List ℕ → ℕ → Structure
+abbrev pub structureFrom : (words : List ℕ) → (i : ℕ) → Structure
 structureFrom words i = record {
-  kind = getD words i 0 % 2 ^ 16;
+  class = getD words i 0 % 2 ^ 16;
   id = getD words (i + 1) 0 % 2 ^ 8;
   first = getD words (i + 2) 0 % 2 ^ 32;
   second = getD words (i + 3) 0 % 2 ^ 32;
@@ -48,7 +48,7 @@ tableFrom words = record {
 }
 
 -- writing the table in lent words into a lent buffer
-unfoldable pub writeWords : List ℕ → List ℕ → Reply Unit
+unfoldable pub writeWords : (words s : List ℕ) → Reply Unit
 writeWords words s =
     guard (leb 22 (length words)) 1  -- fewer than twenty-two words
     (guard (begins (layTable (tableFrom words)) words) 5  -- a word that its field cannot hold

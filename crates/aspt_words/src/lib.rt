@@ -7,10 +7,10 @@ ghost use Rattle.lent.specs.Lent.{numberOf, numberLeft, wordsLeft};
 ghost use Rattle.aspt.specs.Calls.{readOf};
 ghost use Rattle.aspt_build.specs.Write.{writtenBy};
 ghost use Rattle.aspt_words.specs.AsptTable.{layTable, structureFrom, tableFrom, writeWords};
-use aspt::Reading;
+use aspt::CheckAnswer;
 use aspt::Structure;
 use aspt::Table;
-use aspt::Verdict;
+use aspt::TableAnswer;
 
 // A table's words.
 fn lay(t: Table) -> [u64; 22]
@@ -27,17 +27,17 @@ fn lay(t: Table) -> [u64; 22]
         t.creator_revision as u64,
         t.base,
         t.pages as u64,
-        a.kind as u64,
+        a.class as u64,
         a.id as u64,
         a.first as u64,
         a.second as u64,
         a.third as u64,
-        b.kind as u64,
+        b.class as u64,
         b.id as u64,
         b.first as u64,
         b.second as u64,
         b.third as u64,
-        c.kind as u64,
+        c.class as u64,
         c.id as u64,
         c.first as u64,
         c.second as u64,
@@ -51,11 +51,11 @@ pub fn read(bytes: &[u8], words: &mut [u64]) -> u64
     ensures { λ _. ⌜ now (words .exit) ≡ wordsLeft layTable (readOf (now (bytes .entry))) (now (words .entry)) ⌝ }
 {
     match aspt::read(bytes) {
-        Reading::Given(t) => {
+        TableAnswer::Given(t) => {
             let values = lay(t);
             lent::put(words, 0, &values)
         }
-        Reading::Refused(why) => why.number as u64,
+        TableAnswer::Refused(why) => why.number as u64,
     }
 }
 
@@ -65,7 +65,7 @@ fn structure_from(words: &[u64], i: usize) -> Structure
     ensures { λ r. ⌜ r ≡ structureFrom (now (words .entry)) i ⌝ }
 {
     Structure {
-        kind: (words[i] % 0x1_0000) as u16,
+        class: (words[i] % 0x1_0000) as u16,
         id: (words[i + 1] % 0x100) as u8,
         first: (words[i + 2] % 0x1_0000_0000) as u32,
         second: (words[i + 3] % 0x1_0000_0000) as u32,
@@ -105,8 +105,8 @@ pub fn write(buf: &mut [u8], words: &[u64]) -> u64
     let values = lay(table);
     if lent::begin_with(words, &values) {
         match aspt_build::write(buf, table) {
-            Verdict::Accepted => 0,
-            Verdict::Refused(why) => why.number as u64,
+            CheckAnswer::Accepted => 0,
+            CheckAnswer::Refused(why) => why.number as u64,
         }
     } else {
         5

@@ -10,32 +10,32 @@ use lib.ListN.{length}
 use lib.Dec.{leb, ltb, eqb}
 use Rattle.reply.specs.Reply.{Reply, given, refused, then}
 use Rattle.reply.proofs.ReplyLaws.{past, then-given, one-by, apart}
-use Rattle.directory.specs.Directory.{pspKind, placedIn, directoryOf, directoryByCookie}
-use Rattle.entries.specs.Entry.{entryOf, matchOf, holdsIn}
+use Rattle.directory.specs.Directory.{pspKind, mayStand, directoryOf, directoryByCookie}
+use Rattle.entries.specs.Entry.{entryOf, matches, holdsIn}
 use Rattle.directory.specs.Good.{GoodDirectory}
 use Rattle.entries.specs.Good.{Matches}
 use Rattle.directory.specs.declared.Directory.{Directory}
 use Rattle.reply.proofs.SomeLaws.{none-below, some-false}
 use Rattle.entries.proofs.Lowest.{match-says, match-holds}
-use Rattle.directory.proofs.Accept.{placed-fact, placed-test, cookie-acceptance}
+use Rattle.directory.proofs.Accept.{stand-fact, stand-test, cookie-acceptance}
 use Rattle.build.specs.declared.Fields.{Fields}
-use Rattle.build.specs.declared.Total.{Total}
-use Rattle.build.specs.declared.Total.the-variants as answer
+use Rattle.build.specs.declared.TotalAnswer.{TotalAnswer}
+use Rattle.build.specs.declared.TotalAnswer.the-variants as totalAnswer
 use Rattle.build.specs.Write.{startOf, roomFor, extendOf, toldTotal}
 use Rattle.build.specs.Accept.{ToldApart, Startable, Extendable, WriteAcceptance}
 use Rattle.build.proofs.Cases.{start-room, room-given}
 
-totalBack : Reply ℕ → Total
-totalBack (given total) = answer.Given total
-totalBack (refused number carried) = answer.Refused (record { number = number })
+totalBack : Reply ℕ → TotalAnswer
+totalBack (given total) = totalAnswer.Given total
+totalBack (refused number carried) = totalAnswer.Refused (record { number = number })
 
 pub told-apart : ToldApart
 unfolding totalBack
 told-apart = record { total = one-by toldTotal totalBack back }
   where
-    back : (x : Total) → totalBack (toldTotal x) ≡ x
-    back (answer.Given total) = refl
-    back (answer.Refused why) = refl
+    back : (x : TotalAnswer) → totalBack (toldTotal x) ≡ x
+    back (totalAnswer.Given total) = refl
+    back (totalAnswer.Refused why) = refl
 
 -- a level number from 1 to 2 is 1 or 2
 one-or-two : (level : ℕ) → 1 ≤ level → level ≤ 2 → (level ≡ 1) ⊎ (level ≡ 2)
@@ -68,7 +68,7 @@ extend-only f s total e =
     let g = cookie-acceptance .only pspKind 512 s 0 d (t .1) in
     let a = past (ltb (f .location) (2 ^ 62)) _ _ _ (t .2) in
     let b = past (leb (f .mode) 3) _ _ _ (a .1) in
-    let p = past (placedIn pspKind (d .level) (f .class)) _ _ _ (b .1) in
+    let p = past (mayStand pspKind (d .level) (f .class)) _ _ _ (b .1) in
     let q = past (not (holdsIn pspKind s d (f .class) (f .subprogram))) _ _ _ (p .1) in
     let n = past (ltb (d .total) 512) _ _ _ (q .1) in
     let r = past (leb (16 + d .total * 16 + 16) (length s)) _ _ _ (n .1) in
@@ -78,9 +78,9 @@ extend-only f s total e =
       record {
         either = g .2;
         good = subst (GoodDirectory pspKind 512 s) at (g .0);
-        fits = record { location = ltb-true _ _ (a .0); mode = leb-true _ _ (b .0); placed = placed-fact pspKind (d .level) (f .class) (p .0) };
+        fits = record { location = ltb-true _ _ (a .0); mode = leb-true _ _ (b .0); may-stand = stand-fact pspKind (d .level) (f .class) (p .0) };
         new = λ j l m. apart (match-says (entryOf pspKind s (directoryOf 0 (d .level) (d .total)) j) (f .class) (f .subprogram) m)
-            (none-below (λ j. matchOf (entryOf pspKind s (directoryOf 0 (d .level) (d .total)) j) (f .class) (f .subprogram)) (d .total)
+            (none-below (λ j. matches (entryOf pspKind s (directoryOf 0 (d .level) (d .total)) j) (f .class) (f .subprogram)) (d .total)
             (ap (λ (d : Directory). holdsIn pspKind s d (f .class) (f .subprogram)) (sym at) ∙ not-true _ (q .0)) j l);
         few = ltb-true _ _ (n .0);
         room = leb-true _ _ (r .0);
@@ -93,13 +93,13 @@ extend-all f s level n g =
     let fits = g .fits in
     let l = fits .location in
     ap (λ (r : Reply Directory). then r (roomFor f s)) (cookie-acceptance .all pspKind 512 s (directoryOf 0 level n) (λ e. omega arith) (g .good) (g .either))
-    ∙ sym (room-given f s (directoryOf 0 level n) (omega arith) (fits .mode) pspKind true refl (sym (placed-test pspKind level (f .class) (fits .placed))) refl false
-    (sym (some-false (λ j. matchOf (entryOf pspKind s (directoryOf 0 level n) j) (f .class) (f .subprogram)) n (λ j l. differs j (g .new j l)))) refl (g .few) (g .room))
+    ∙ sym (room-given f s (directoryOf 0 level n) (omega arith) (fits .mode) pspKind true refl (sym (stand-test pspKind level (f .class) (fits .may-stand))) refl false
+    (sym (some-false (λ j. matches (entryOf pspKind s (directoryOf 0 level n) j) (f .class) (f .subprogram)) n (λ j l. differs j (g .new j l)))) refl (g .few) (g .room))
   where
-    differs : (j : ℕ) → (Matches pspKind s (directoryOf 0 level n) (f .class) (f .subprogram) j → ⊥) → matchOf (entryOf pspKind s (directoryOf 0 level n) j) (f .class) (f .subprogram) ≡ false
-    differs j never = by (matchOf (entryOf pspKind s (directoryOf 0 level n) j) (f .class) (f .subprogram)) refl
+    differs : (j : ℕ) → (Matches pspKind s (directoryOf 0 level n) (f .class) (f .subprogram) j → ⊥) → matches (entryOf pspKind s (directoryOf 0 level n) j) (f .class) (f .subprogram) ≡ false
+    differs j never = by (matches (entryOf pspKind s (directoryOf 0 level n) j) (f .class) (f .subprogram)) refl
       where
-        by : (b : Bool) → matchOf (entryOf pspKind s (directoryOf 0 level n) j) (f .class) (f .subprogram) ≡ b → b ≡ false
+        by : (b : Bool) → matches (entryOf pspKind s (directoryOf 0 level n) j) (f .class) (f .subprogram) ≡ b → b ≡ false
         by true e = absurd (never (match-holds (entryOf pspKind s (directoryOf 0 level n) j) (f .class) (f .subprogram) e))
         by false e = refl
 

@@ -3,7 +3,7 @@ use mathlib.Core.Path.{_≡_, refl, sym, ap, _∙_}
 use mathlib.Core.Logic.{_⊎_}
 use mathlib.Core.List.{List}
 use Prim.Native.Nat.{ℕ, zero, suc, _+_, _*_, _<_, _≤_}
-use native.Mathlib.Nat.{zero-add}
+use native.Mathlib.Nat.{zero-add, div-one}
 use native.Mathlib.Omega.{arith}
 use lib.ListN.{length, getD, take, drop}
 use Rattle.le.specs.Le.{leAt, leBytes, Bytes}
@@ -11,6 +11,7 @@ use Rattle.le.proofs.Laws.{le-small}
 use Rattle.le.proofs.Part.{part-add}
 use Rattle.le.proofs.Back.{le-again}
 use Rattle.fletcher.specs.Fletcher.{fletcherOf}
+use Rattle.reply.specs.Scan.{All}
 use Rattle.directory.specs.Directory.{pspKind, cookieOf, directoryOf}
 use Rattle.entries.specs.Entry.{entryOf}
 use Rattle.directory.specs.Good.{GoodDirectory}
@@ -18,8 +19,8 @@ use Rattle.directory.specs.declared.Directory.{Directory}
 use Rattle.build.specs.declared.Fields.{Fields}
 use Rattle.build.specs.Write.{entriesBytes, summedBytes, directoryBytes}
 use Rattle.build.specs.Accept.{Fits}
-use Rattle.build.specs.Back.{Sized, Each, nothing, also, blank, fieldsOf, entriesFrom, entriesOf}
-use Rattle.build.proofs.Places.{entry-again}
+use Rattle.build.specs.Back.{Sized, blank, fieldsOf, entriesFrom, entriesOf}
+use Rattle.build.proofs.Places.{entry-again, summed-numbers, directory-numbers}
 use Rattle.build.proofs.Grow.{Sound}
 
 module _ (s : List ℕ) (d : Directory) where
@@ -28,10 +29,10 @@ module _ (s : List ℕ) (d : Directory) where
   length-from zero i = refl
   length-from (suc m) i = ap suc (length-from m (i + 1))
 
-  each-from : (P : Fields → Type 0) (m i : ℕ) → ((j : ℕ) → i ≤ j → j < i + m → P (fieldsOf (entryOf pspKind s d j))) → Each P (entriesFrom s d m i)
+  all-from : (P : Fields → Type 0) (m i : ℕ) → ((j : ℕ) → i ≤ j → j < i + m → P (fieldsOf (entryOf pspKind s d j))) → All P (entriesFrom s d m i)
   unfolding entriesFrom
-  each-from P zero i h = nothing
-  each-from P (suc m) i h = also (h i (omega arith) (omega arith)) (each-from P m (i + 1) (λ j a b. h j (omega arith) (omega arith)))
+  all-from P zero i h = tt
+  all-from P (suc m) i h = (h i (omega arith) (omega arith), all-from P m (i + 1) (λ j a b. h j (omega arith) (omega arith)))
 
   from-at : (m i j : ℕ) → j < m → getD (entriesFrom s d m i) j blank ≡ fieldsOf (entryOf pspKind s d (i + j))
   unfolding entriesFrom
@@ -46,7 +47,7 @@ toldIn s level n = entriesOf s (directoryOf 0 level n)
 -- a good directory at a buffer's start
 module _ (s : List ℕ) (bytes : Bytes s) (level n : ℕ) (good : GoodDirectory pspKind 512 s (directoryOf 0 level n)) where
   zeros : (j : ℕ) → j < n → leAt 2 s (16 + j * 16 + 2) ≡ 0
-  zeros j h = let z : leAt 2 s (16 + j * 16 + 2) < 1 = good .entries j h .reserved in omega arith
+  zeros j h = sym (div-one (leAt 2 s (16 + j * 16 + 2))) ∙ good .entries j h .reserved
 
   entries-bytes : (m i : ℕ) → i + m ≤ n → entriesBytes (entriesFrom s (directoryOf 0 level n) m i) ≡ take (m * 16) (drop (16 + i * 16) s)
   unfolding entriesBytes entriesFrom
@@ -65,10 +66,9 @@ module _ (s : List ℕ) (bytes : Bytes s) (level n : ℕ) (good : GoodDirectory 
       let number : length told ≡ leAt 4 s 8 = length-from s (directoryOf 0 level n) n 0 ∙ sym (good .total) in
       let one : leBytes 4 (length told) ≡ take 4 (drop 8 s) = ap (leBytes 4) number ∙ le-again s bytes 4 8 (omega arith) in
       let two : leBytes 4 0 ≡ take 4 (drop 12 s) = ap (leBytes 4) (sym (good .reserved)) ∙ le-again s bytes 4 12 (omega arith) in
-      rw (one, two, entries-bytes n 0 (omega arith), part-add s 8 4 4, part-add s 8 8 (n * 16)) refl
+      summed-numbers told ∙ rw (one, two, entries-bytes n 0 (omega arith), part-add s 8 4 4, part-add s 8 8 (n * 16)) refl
 
   pub directory-bytes : directoryBytes level (toldIn s level n) ≡ take (16 + n * 16) s
-  unfolding directoryBytes
   directory-bytes =
       let told = toldIn s level n in
       let room : 16 + n * 16 ≤ length s = good .present in
@@ -76,7 +76,7 @@ module _ (s : List ℕ) (bytes : Bytes s) (level n : ℕ) (good : GoodDirectory 
       let two : leBytes 4 (fletcherOf (summedBytes told)) ≡ take 4 (drop 4 s) =
       ap (leBytes 4) (ap fletcherOf summed-bytes ∙ sym (good .checksum)) ∙ le-again s bytes 4 4 (omega arith) in
       let long : 8 + (8 + n * 16) ≡ 16 + n * 16 = omega arith in
-      rw (one, two, summed-bytes, part-add s 0 4 4, part-add s 0 8 (8 + n * 16), long) refl
+      directory-numbers level told ∙ rw (one, two, summed-bytes, part-add s 0 4 4, part-add s 0 8 (8 + n * 16), long) refl
 
   pub told-sound : (level ≡ 1) ⊎ (level ≡ 2) → Sound level (toldIn s level n)
   told-sound either = record {
@@ -91,14 +91,14 @@ module _ (s : List ℕ) (bytes : Bytes s) (level n : ℕ) (good : GoodDirectory 
           sym (ap (λ (f : Fields). f .class) y) ∙ same .0 ∙ ap (λ (f : Fields). f .class) x,
           sym (ap (λ (f : Fields). f .subprogram) y) ∙ same .1 ∙ ap (λ (f : Fields). f .subprogram) x,
         );
-    sized = each-from s (directoryOf 0 level n) Sized n 0 (λ j a b. record {
-      class = bytes (16 + j * 16);
-      subprogram = bytes (16 + j * 16 + 1);
+    sized = all-from s (directoryOf 0 level n) Sized n 0 (λ j a b. record {
+      class = le-small s bytes 1 (16 + j * 16 + 0);
+      subprogram = le-small s bytes 1 (16 + j * 16 + 1);
       size = le-small s bytes 4 (16 + j * 16 + 4);
     });
-    fits = each-from s (directoryOf 0 level n) (Fits level) n 0 (λ j a b. record {
+    fits = all-from s (directoryOf 0 level n) (Fits level) n 0 (λ j a b. record {
       location = omega arith;
       mode = omega (arith, le-small s bytes 8 (16 + j * 16 + 8));
-      placed = good .entries j (omega arith) .placed;
+      may-stand = good .entries j (omega arith) .may-stand;
     });
   }

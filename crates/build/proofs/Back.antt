@@ -9,6 +9,7 @@ use lib.Seq.{drop-drop}
 use Rattle.le.specs.Le.{putBytes, Bytes}
 use Rattle.le.proofs.Put.{put-front}
 use Rattle.reply.specs.Reply.{Reply, given, then}
+use Rattle.reply.specs.Scan.{All}
 use Rattle.reply.proofs.ReplyLaws.{then-given}
 use Rattle.directory.specs.Directory.{pspKind, entryPlace, directoryOf, directoryByCookie}
 use Rattle.directory.specs.Good.{GoodDirectory}
@@ -16,7 +17,7 @@ use Rattle.directory.specs.declared.Directory.{Directory}
 use Rattle.directory.proofs.Accept.{cookie-acceptance}
 use Rattle.build.specs.declared.Fields.{Fields}
 use Rattle.build.specs.Write.{directoryBytes, startOf, startedBy, extendOf, extendedBy}
-use Rattle.build.specs.Back.{Sized, Each, nothing, entriesOf, Holds, extendAll, buildOf, Buildable, BuildAcceptance, ReadBack, WrittenAgain}
+use Rattle.build.specs.Back.{Sized, entriesOf, Holds, extendAll, buildOf, Buildable, BuildAcceptance, ReadBack, WrittenAgain}
 use Rattle.build.proofs.Accept.{start-only, start-all}
 use Rattle.build.proofs.Places.{length-directory}
 use Rattle.build.proofs.Grow.{Sound, holds, step-only, grown, grows}
@@ -24,7 +25,7 @@ use Rattle.build.proofs.Accepted.{toldIn, length-from, directory-bytes,
 
 -- no entries
 empty : (level : ℕ) → (level ≡ 1) ⊎ (level ≡ 2) → Sound level []
-empty level either = record { either = either; few = omega arith; sized = nothing; fits = nothing; apart = λ i j h l same. let z : ⊥ = omega arith in z }
+empty level either = record { either = either; few = omega arith; sized = tt; fits = tt; apart = λ i j h l same. let z : ⊥ = omega arith in z }
 
 -- what a start leaves
 started-bytes : (level : ℕ) (s : List ℕ) → 16 ≤ length s → putBytes (directoryBytes level []) s 0 ≡ directoryBytes level [] ++ drop 16 s
@@ -41,7 +42,7 @@ whole-bytes level fs s room =
     ap (λ (r : List ℕ). directoryBytes level fs ++ r) (drop-drop (length fs * 16) 16 s) ∙ sym (put-front (directoryBytes level fs) s (16 + length fs * 16) (length-directory level fs) room)
 
 -- a build that is accepted
-built-only : (level : ℕ) (fs : List Fields) (s t : List ℕ) → Each Sized fs → buildOf level fs s ≡ given t →
+built-only : (level : ℕ) (fs : List Fields) (s t : List ℕ) → All Sized fs → buildOf level fs s ≡ given t →
     Sound level fs × (16 + length fs * 16 ≤ length s) × (t ≡ directoryBytes level fs ++ drop (length fs * 16) (drop 16 s))
 built-only level fs s t sized e =
     let x = then-given (startOf level s) (λ total. extendAll fs (startedBy level s (given total))) e in
@@ -50,12 +51,12 @@ built-only level fs s t sized e =
     let y = grown level fs [] (drop 16 s) t (empty level (g .either)) sized (ap (extendAll fs) (sym (started-bytes level s room)) ∙ x .2) in
     (y .0, omega (arith, y .1, length-drop 16 s), y .2)
 
-build-only : (level : ℕ) (fs : List Fields) (s t : List ℕ) → Each Sized fs → buildOf level fs s ≡ given t → Buildable level fs s
+build-only : (level : ℕ) (fs : List Fields) (s t : List ℕ) → All Sized fs → buildOf level fs s ≡ given t → Buildable level fs s
 build-only level fs s t sized e =
     let x = built-only level fs s t sized e in
     record { either = x .0 .either; few = x .0 .few; fits = x .0 .fits; apart = x .0 .apart; room = x .1 }
 
-build-all : (level : ℕ) (fs : List Fields) (s : List ℕ) → Each Sized fs → Buildable level fs s → buildOf level fs s ≡ given (putBytes (directoryBytes level fs) s 0)
+build-all : (level : ℕ) (fs : List Fields) (s : List ℕ) → All Sized fs → Buildable level fs s → buildOf level fs s ≡ given (putBytes (directoryBytes level fs) s 0)
 build-all level fs s sized g =
     let room = g .room in
     ap (λ (x : Reply ℕ). then x (λ total. extendAll fs (startedBy level s (given total)))) (start-all level s (record { either = g .either; room = omega arith }))
@@ -65,7 +66,7 @@ build-all level fs s sized g =
 pub build-acceptance : BuildAcceptance
 build-acceptance = record { only = build-only; all = build-all }
 
-built : (level : ℕ) (fs : List Fields) (s t : List ℕ) → Each Sized fs → buildOf level fs s ≡ given t → Holds level fs t
+built : (level : ℕ) (fs : List Fields) (s t : List ℕ) → All Sized fs → buildOf level fs s ≡ given t → Holds level fs t
 built level fs s t sized e =
     let x = built-only level fs s t sized e in
     subst (Holds level fs) (sym (x .2)) (holds level fs (x .0) (drop (length fs * 16) (drop 16 s)))

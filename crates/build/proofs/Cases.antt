@@ -15,13 +15,13 @@ use Rattle.fletcher.specs.Fletcher.{wordsAt, sumOf, weightedOf, fletcherOf}
 use lib.Dec.{leb, ltb}
 use Rattle.reply.specs.Reply.{Reply, given, refused, alone, guard}
 use Rattle.reply.proofs.ReplyLaws.{passed, failed}
-use Rattle.directory.specs.Directory.{pspKind, cookieOf, placedIn}
+use Rattle.directory.specs.Directory.{pspKind, cookieOf, mayStand}
 use Rattle.entries.specs.Entry.{holdsIn}
 use Rattle.directory.specs.declared.Kind.{Kind}
 use Rattle.directory.specs.declared.Directory.{Directory}
 use Rattle.build.specs.declared.Fields.{Fields}
-use Rattle.build.specs.Write.{entryBytes, entriesBytes, directoryBytes, startOf, startedBy, roomFor}
-use Rattle.build.proofs.Places.{entryNumbers, headNumbers, entry-numbers}
+use Rattle.build.specs.Write.{entryFields, entryBytes, entriesBytes, headerFields, directoryBytes, startOf, startedBy, roomFor}
+use Rattle.build.proofs.Places.{entry-numbers}
 
 module _ (level : ℕ) (s : List ℕ) where
   pub start-below : level < 1 → refused 9 alone ≡ startOf level s
@@ -50,9 +50,9 @@ module _ (f : Fields) (s : List ℕ) (d : Directory) where
     unfolding roomFor
     room-mode b = rw (lt-ltb (f .location) (2 ^ 62) (omega arith), lt-leb (f .mode) 3 b)
 
-    module _ (b : f .mode ≤ 3) (kind : Kind) (p : Bool) (k : kind ≡ pspKind) (e : p ≡ placedIn kind (d .level) (f .class)) where
-      placed : placedIn pspKind (d .level) (f .class) ≡ p
-      placed = sym (e ∙ ap (λ (kind : Kind). placedIn kind (d .level) (f .class)) k)
+    module _ (b : f .mode ≤ 3) (kind : Kind) (p : Bool) (k : kind ≡ pspKind) (e : p ≡ mayStand kind (d .level) (f .class)) where
+      placed : mayStand pspKind (d .level) (f .class) ≡ p
+      placed = sym (e ∙ ap (λ (kind : Kind). mayStand kind (d .level) (f .class)) k)
 
       pub room-misplaced : p ≡ false → refused 14 alone ≡ roomFor f s d
       unfolding roomFor
@@ -69,7 +69,7 @@ module _ (f : Fields) (s : List ℕ) (d : Directory) where
 
         module _ (y : t ≡ false) where
           first : (rest : Reply ℕ) →
-              guard (ltb (f .location) (2 ^ 62)) 5 (guard (leb (f .mode) 3) 5 (guard (placedIn pspKind (d .level) (f .class)) 14 (guard (not (holdsIn pspKind s d (f .class) (f .subprogram))) 18 rest))) ≡ rest
+              guard (ltb (f .location) (2 ^ 62)) 5 (guard (leb (f .mode) 3) 5 (guard (mayStand pspKind (d .level) (f .class)) 14 (guard (not (holdsIn pspKind s d (f .class) (f .subprogram))) 18 rest))) ≡ rest
           first rest =
               passed _ _ _ _ (lt-ltb (f .location) (2 ^ 62) (omega arith)) ∙ passed _ _ _ _ (le-leb (f .mode) 3 b) ∙ passed _ _ _ _ (placed ∙ h) ∙ passed _ _ _ _ (ap not (holds ∙ y))
 
@@ -92,9 +92,9 @@ pub header-put : (kind : Kind) (level cookie : ℕ) (s t u v w : List ℕ) → 1
     t ≡ putAt 4 cookie s 0 → u ≡ putAt 4 0xFFFF_FFFF t 4 → v ≡ putAt 4 0 u 8 → w ≡ putAt 4 0 v 12 → w ≡ startedBy level s (startOf level s)
 unfolding leAt leBytes bytesOf wordsAt sumOf weightedOf fletcherOf entriesBytes directoryBytes
 header-put kind level cookie s t u v w a b h psp k e1 e2 e3 e4 =
-    let written = puts-all (headNumbers cookie 0xFFFF_FFFF 0) s 0 h in
-    let whole : w ≡ putBytes (bytesOf (headNumbers cookie 0xFFFF_FFFF 0)) s 0 = cc in
-    whole ∙ ap (λ (x : ℕ). putBytes (bytesOf (headNumbers x 0xFFFF_FFFF 0)) s 0) (k ∙ ap (λ (kind : Kind). cookieOf kind level) psp) ∙ ap (startedBy level s) (start-room level s a b h)
+    let written = puts-all (headerFields cookie 0xFFFF_FFFF 0) s 0 h in
+    let whole : w ≡ putBytes (bytesOf (headerFields cookie 0xFFFF_FFFF 0)) s 0 = cc in
+    whole ∙ ap (λ (x : ℕ). putBytes (bytesOf (headerFields x 0xFFFF_FFFF 0)) s 0) (k ∙ ap (λ (kind : Kind). cookieOf kind level) psp) ∙ ap (startedBy level s) (start-room level s a b h)
 
 -- an entry's five numbers, written in order
 pub entry-put : (f : Fields) (s t u v w x : List ℕ) → 16 ≤ length s →
@@ -102,7 +102,7 @@ pub entry-put : (f : Fields) (s t u v w x : List ℕ) → 16 ≤ length s →
     x ≡ putBytes (entryBytes f) s 0
 unfolding leBytes bytesOf
 entry-put f s t u v w x h e1 e2 e3 e4 e5 =
-    let written = puts-all (entryNumbers f) s 0 h in
+    let written = puts-all (entryFields f) s 0 h in
     let is = entry-numbers f in
     cc
 

@@ -3,7 +3,7 @@ use mathlib.Core.Path.{_≡_, refl, sym, ap, subst, _∙_}
 use mathlib.Core.Logic.{_⊎_}
 use mathlib.Core.List.{List, [], _∷_, _++_, append-assoc, append-nil}
 use mathlib.Core.Bool.{Bool, true, false}
-use Prim.Native.Nat.{ℕ, zero, suc, _+_, _*_, _<_, _≤_}
+use Prim.Native.Nat.{ℕ, zero, suc, _+_, _*_, _/_, _<_, _≤_}
 use native.Mathlib.Nat.{zero-add}
 use native.Mathlib.Omega.{arith}
 use lib.ListN.{length, getD, drop, length-append, length-drop, List·getD-append}
@@ -14,6 +14,7 @@ use Rattle.le.specs.Le.{leAt, leBytes, bytesOf}
 use Rattle.fletcher.specs.Fletcher.{fletcherOf}
 use Rattle.fletcher.proofs.Laws.{fletcher-small}
 use Rattle.reply.specs.Reply.{Reply, given, then}
+use Rattle.reply.specs.Scan.{All}
 use Rattle.reply.proofs.ReplyLaws.{then-given}
 use Rattle.directory.specs.Directory.{pspKind, cookieOf, directoryOf, directoryByCookie}
 use Rattle.entries.specs.Entry.{fieldsAt, entryOf}
@@ -22,27 +23,28 @@ use Rattle.entries.specs.Good.{Matches}
 use Rattle.directory.specs.declared.Directory.{Directory}
 use Rattle.directory.proofs.Accept.{cookie-acceptance}
 use Rattle.build.specs.declared.Fields.{Fields}
-use Rattle.build.specs.Write.{entryBytes, entriesBytes, summedBytes, directoryBytes, extendOf, extendedBy}
+use Rattle.build.specs.Write.{entryBytes, entriesBytes, headerFields, summedBytes, directoryBytes, extendOf, extendedBy}
 use Rattle.build.specs.Accept.{Fits}
-use Rattle.build.specs.Back.{Sized, Each, nothing, also, blank, Same, Apart, fieldsOf, entriesFrom, Holds, extendAll}
+use Rattle.build.specs.Back.{Sized, blank, Same, Apart, fieldsOf, entriesFrom, Holds, extendAll}
 use Rattle.build.proofs.Accept.{extend-only, extend-all}
-use Rattle.build.proofs.Places.{length-entryBytes, headNumbers, headed-reads, cookie-small, directory-headed, length-directory, directory-summed, extended-bytes, entry-behind}
+use Rattle.build.proofs.Places.{length-entryBytes, headed-reads, cookie-small, directory-headed, length-directory, directory-summed, extended-bytes, entry-behind}
 
-each-at : {P : Fields → Type 0} {fs : List Fields} (i : ℕ) → Each P fs → i < length fs → P (getD fs i blank)
-each-at i nothing h = absurd (let z : ⊥ = omega arith in z)
-each-at zero (also p ps) h = p
-each-at (suc i) (also p ps) h = each-at i ps (omega arith)
+-- what holds of each holds of one, and of two lists together
+all-at : (P : Fields → Type 0) (fs : List Fields) (i : ℕ) → All P fs → i < length fs → P (getD fs i blank)
+all-at P [] i ps h = absurd (let z : ⊥ = omega arith in z)
+all-at P (f ∷ fs) zero ps h = ps .0
+all-at P (f ∷ fs) (suc i) ps h = all-at P fs i (ps .1) (omega arith)
 
-each-more : {P : Fields → Type 0} {gs fs : List Fields} → Each P gs → Each P fs → Each P (gs ++ fs)
-each-more nothing qs = qs
-each-more (also p ps) qs = also p (each-more ps qs)
+all-more : (P : Fields → Type 0) (gs fs : List Fields) → All P gs → All P fs → All P (gs ++ fs)
+all-more P [] fs ps qs = qs
+all-more P (g ∷ gs) fs ps qs = (ps .0, all-more P gs fs (ps .1) qs)
 
 -- entries that a directory of this level may hold
 pub record Sound (level : ℕ) (fs : List Fields) : Type 0 where
   pub either : (level ≡ 1) ⊎ (level ≡ 2)
   pub few : length fs ≤ 512
-  pub sized : Each Sized fs
-  pub fits : Each (Fits level) fs
+  pub sized : All Sized fs
+  pub fits : All (Fits level) fs
   pub apart : Apart fs
 
 -- the entry at e is f, with reserved bits zero
@@ -50,13 +52,13 @@ abbrev Stands : Fields → List ℕ → ℕ → Type 0
 Stands f s e = (fieldsOf (fieldsAt s e) ≡ f) × (leAt 2 s (e + 2) ≡ 0)
 
 -- of entries behind p, each stands at its place
-stands : (level : ℕ) (fs : List Fields) (p r : List ℕ) (j e : ℕ) → length p ≡ e → Each Sized fs → Each (Fits level) fs → j < length fs → Stands (getD fs j blank) (p ++ (entriesBytes fs ++ r)) (e + j * 16)
+stands : (level : ℕ) (fs : List Fields) (p r : List ℕ) (j e : ℕ) → length p ≡ e → All Sized fs → All (Fits level) fs → j < length fs → Stands (getD fs j blank) (p ++ (entriesBytes fs ++ r)) (e + j * 16)
 unfolding entriesBytes
 stands level [] p r j e at zs ws h = absurd (let z : ⊥ = omega arith in z)
-stands level (f ∷ fs) p r zero e at (also z zs) (also w ws) h =
+stands level (f ∷ fs) p r zero e at (z, zs) (w, ws) h =
     let here : e + 0 * 16 ≡ e = omega arith in
     rw (here, append-assoc (entryBytes f) (entriesBytes fs) r) (entry-behind f p (entriesBytes fs ++ r) e at z (w .location) (w .mode))
-stands level (f ∷ fs) p r (suc j) e at (also z zs) (also w ws) h =
+stands level (f ∷ fs) p r (suc j) e at (z, zs) (w, ws) h =
     let there : e + suc j * 16 ≡ e + 16 + j * 16 = omega arith in
     let shape : p ++ (entryBytes f ++ entriesBytes fs ++ r) ≡ p ++ entryBytes f ++ (entriesBytes fs ++ r) = simp append-assoc in
     rw (there, shape) (stands level fs (p ++ entryBytes f) r j (e + 16) (length-append p (entryBytes f) ∙ omega (arith, length-entryBytes f)) zs ws (omega arith))
@@ -77,7 +79,7 @@ module _ (level : ℕ) (fs : List Fields) (sound : Sound level fs) (r : List ℕ
   unfolding bytesOf leBytes
   at i h =
       rw (directory-headed level fs r)
-      (stands level fs (bytesOf (headNumbers (cookieOf pspKind level) (fletcherOf (summedBytes fs)) (length fs))) r i 16 refl (sound .sized) (sound .fits) h)
+      (stands level fs (bytesOf (headerFields (cookieOf pspKind level) (fletcherOf (summedBytes fs)) (length fs))) r i 16 refl (sound .sized) (sound .fits) h)
 
   pub good : GoodDirectory pspKind 512 (directoryBytes level fs ++ r) (directoryOf 0 level (length fs))
   good =
@@ -96,8 +98,8 @@ module _ (level : ℕ) (fs : List Fields) (sound : Sound level fs) (r : List ℕ
         checksum = rw shape (reads .1 .0 ∙ sym (directory-summed level fs k r));
         reserved = rw shape (reads .1 .1 .1 .0);
         entries = λ i h. record {
-          reserved = omega (arith, at i h .1);
-          placed = λ l e. each-at i (sound .fits) h .placed l (sym (ap (λ (f : Fields). f .class) (at i h .0)) ∙ e);
+          reserved = ap (λ (x : ℕ). x / 1) (at i h .1);
+          may-stand = λ l e. all-at (Fits level) fs i (sound .fits) h .may-stand l (sym (ap (λ (f : Fields). f .class) (at i h .0)) ∙ e);
         };
         first = λ i h no j l a.
             let here = at i h .0 in
@@ -157,8 +159,8 @@ more-sound level gs f sound h z w new = record {
   apart = more-apart gs f (sound .apart) new;
   either = sound .either;
   few = omega (arith, length-append gs (f ∷ []));
-  sized = each-more (sound .sized) (also z nothing);
-  fits = each-more (sound .fits) (also w nothing);
+  sized = all-more Sized gs (f ∷ []) (sound .sized) (z, tt);
+  fits = all-more (Fits level) gs (f ∷ []) (sound .fits) (w, tt);
 }
 
 -- an extend of a directory's bytes that is accepted
@@ -187,11 +189,11 @@ on level fs gs f r =
     rw (append-snoc gs f fs, drop-drop (length fs * 16) 16 r, long) refl
 
 -- any list of them
-pub grown : (level : ℕ) (fs gs : List Fields) (r t : List ℕ) → Sound level gs → Each Sized fs → extendAll fs (directoryBytes level gs ++ r) ≡ given t →
+pub grown : (level : ℕ) (fs gs : List Fields) (r t : List ℕ) → Sound level gs → All Sized fs → extendAll fs (directoryBytes level gs ++ r) ≡ given t →
     Sound level (gs ++ fs) × (length fs * 16 ≤ length r) × (t ≡ directoryBytes level (gs ++ fs) ++ drop (length fs * 16) r)
 unfolding extendAll
 grown level [] gs r t sound zs e = rw append-nil (sound, omega arith, cc)
-grown level (f ∷ fs) gs r t sound (also z zs) e =
+grown level (f ∷ fs) gs r t sound (z, zs) e =
     let s = directoryBytes level gs ++ r in
     let x = then-given (extendOf f s) (λ total. extendAll fs (extendedBy f s (given total))) e in
     let g = step-only level gs f r (x .0) sound z (x .1) in
@@ -199,11 +201,11 @@ grown level (f ∷ fs) gs r t sound (also z zs) e =
     (subst (Sound level) (append-snoc gs f fs) (rest .0), omega (arith, g .1, rest .1, length-drop 16 r), rest .2 ∙ on level fs gs f r)
 
 -- and entries that can be written are accepted
-pub grows : (level : ℕ) (fs gs : List Fields) (r : List ℕ) → Sound level gs → Each Sized fs → Each (Fits level) fs → Apart (gs ++ fs) → length gs + length fs ≤ 512 → length fs * 16 ≤ length r →
+pub grows : (level : ℕ) (fs gs : List Fields) (r : List ℕ) → Sound level gs → All Sized fs → All (Fits level) fs → Apart (gs ++ fs) → length gs + length fs ≤ 512 → length fs * 16 ≤ length r →
     extendAll fs (directoryBytes level gs ++ r) ≡ given (directoryBytes level (gs ++ fs) ++ drop (length fs * 16) r)
 unfolding extendAll
 grows level [] gs r sound zs ws apart few room = rw append-nil refl
-grows level (f ∷ fs) gs r sound (also z zs) (also w ws) apart few room =
+grows level (f ∷ fs) gs r sound (z, zs) (w, ws) apart few room =
     let new = new-in gs fs f apart in
     let s = directoryBytes level gs ++ r in
     let accepted : extendOf f s ≡ given (length gs + 1) = extend-all f s level (length gs) (record {

@@ -9,8 +9,6 @@ use lib.Seq.{take-at, length-take-le}
 use lib.Dec.{eqb}
 use Rattle.le.specs.Le.{leAt, leBytes, putBytes, putAt, Bytes, Number, bytesOf}
 use Rattle.le.specs.Back.{Held}
-use Rattle.le.proofs.Laws.{byte-le}
-use Rattle.le.proofs.Put.{length-leBytes}
 use Rattle.le.proofs.Back.{put-over}
 use Rattle.le.proofs.Numbers.{held, held-again}
 use Rattle.fletcher.specs.Fletcher.{fletcherOf}
@@ -18,34 +16,25 @@ use Rattle.reply.specs.Reply.{given}
 use Rattle.directory.specs.Directory.{pspKind, cookieOf, checksumAt}
 use Rattle.entries.specs.Entry.{fieldsAt}
 use Rattle.build.specs.declared.Fields.{Fields}
-use Rattle.build.specs.Write.{entryBytes, entriesBytes, summedBytes, directoryBytes, lengthened, extendedBy}
+use Rattle.build.specs.Write.{entryFields, entryBytes, headerFields, entriesBytes, summedBytes, directoryBytes, lengthened, extendedBy}
 use Rattle.build.specs.Back.{Sized, fieldsOf}
 
--- the numbers of an entry, and of a directory's first sixteen bytes
-abbrev pub entryNumbers : Fields → List Number
-entryNumbers f =
-    record { bytes = 1; value = f .class } ∷ record { bytes = 1; value = f .subprogram } ∷ record { bytes = 2; value = 0 } ∷ record { bytes = 4; value = f .size }
-    ∷ record { bytes = 8; value = f .location + f .mode * 2 ^ 62 } ∷ []
-
-abbrev pub headNumbers : ℕ → ℕ → ℕ → List Number
-headNumbers cookie sum total =
-    record { bytes = 4; value = cookie } ∷ record { bytes = 4; value = sum } ∷ record { bytes = 4; value = total } ∷ record { bytes = 4; value = 0 } ∷ []
-
-pub entry-numbers : (f : Fields) → entryBytes f ≡ bytesOf (entryNumbers f)
-unfolding entryBytes bytesOf leBytes
+-- an entry's bytes are those of its fields
+pub entry-numbers : (f : Fields) → entryBytes f ≡ bytesOf (entryFields f)
+unfolding entryBytes
 entry-numbers f = refl
 
 pub length-entryBytes : (f : Fields) → length (entryBytes f) ≡ 16
-unfolding entryBytes leBytes
+unfolding entryBytes bytesOf leBytes
 length-entryBytes f = refl
 
 -- a directory's first sixteen bytes, with any numbers, and what stands behind them
 abbrev pub headed : ℕ → ℕ → ℕ → List ℕ → List ℕ
-headed cookie sum total rest = bytesOf (headNumbers cookie sum total) ++ rest
+headed cookie sum total rest = bytesOf (headerFields cookie sum total) ++ rest
 
 module _ (cookie sum total : ℕ) (rest : List ℕ) where
-  pub headed-reads : cookie < 2 ^ 32 → sum < 2 ^ 32 → total < 2 ^ 32 → Held (headNumbers cookie sum total) (headed cookie sum total rest) 0
-  headed-reads c k n = held (headNumbers cookie sum total) (headed cookie sum total rest) [] rest 0 refl refl (c, (k, (n, (omega arith, tt))))
+  pub headed-reads : cookie < 2 ^ 32 → sum < 2 ^ 32 → total < 2 ^ 32 → Held (headerFields cookie sum total) (headed cookie sum total rest) 0
+  headed-reads c k n = held (headerFields cookie sum total) (headed cookie sum total rest) [] rest 0 refl refl (c, (k, (n, (omega arith, tt))))
 
   pub headed-summed : drop 8 (headed cookie sum total rest) ≡ leBytes 4 total ++ (leBytes 4 0 ++ rest)
   unfolding bytesOf leBytes
@@ -88,14 +77,24 @@ unfolding directoryBytes bytesOf leBytes
 directory-headed level fs r = refl
 
 pub length-directory : (level : ℕ) (fs : List Fields) → length (directoryBytes level fs) ≡ 16 + length fs * 16
-unfolding directoryBytes
-length-directory level fs = simp (length-append, length-leBytes) (omega (arith, length-entries fs))
+unfolding directoryBytes bytesOf leBytes
+length-directory level fs = omega (arith, length-entries fs)
+
+-- the same, number by number
+pub summed-numbers : (fs : List Fields) → summedBytes fs ≡ leBytes 4 (length fs) ++ leBytes 4 0 ++ entriesBytes fs
+unfolding bytesOf leBytes
+summed-numbers fs = refl
+
+pub directory-numbers : (level : ℕ) (fs : List Fields) → directoryBytes level fs ≡ leBytes 4 (cookieOf pspKind level) ++ leBytes 4 (fletcherOf (summedBytes fs)) ++ summedBytes fs
+unfolding directoryBytes bytesOf leBytes
+directory-numbers level fs = refl
 
 -- what the checksum is taken over
 pub directory-summed : (level : ℕ) (fs : List Fields) (sum : ℕ) (r : List ℕ) → checksumAt pspKind (headed (cookieOf pspKind level) sum (length fs) (entriesBytes fs ++ r)) 0 (length fs) ≡ fletcherOf (summedBytes fs)
+unfolding bytesOf leBytes
 directory-summed level fs sum r =
-    let long : length (summedBytes fs) ≡ 8 + length fs * 16 = simp (length-append, length-leBytes) (omega (arith, length-entries fs)) in
-    let shape : leBytes 4 (length fs) ++ (leBytes 4 0 ++ (entriesBytes fs ++ r)) ≡ summedBytes fs ++ r = simp append-assoc in
+    let long : length (summedBytes fs) ≡ 8 + length fs * 16 = omega (arith, length-entries fs) in
+    let shape : leBytes 4 (length fs) ++ (leBytes 4 0 ++ (entriesBytes fs ++ r)) ≡ summedBytes fs ++ r = refl in
     ap (λ (x : List ℕ). fletcherOf (take (8 + length fs * 16) x)) (headed-summed (cookieOf pspKind level) sum (length fs) (entriesBytes fs ++ r) ∙ shape)
     ∙ ap fletcherOf (take-at (summedBytes fs) r (8 + length fs * 16) long)
 
@@ -127,9 +126,9 @@ pub entry-behind : (f : Fields) (p q : List ℕ) (e : ℕ) → length p ≡ e �
     (fieldsOf (fieldsAt (p ++ (entryBytes f ++ q)) e) ≡ f) × (leAt 2 (p ++ (entryBytes f ++ q)) (e + 2) ≡ 0)
 entry-behind f p q e at sized location mode =
     let s = p ++ (entryBytes f ++ q) in
-    let h = held (entryNumbers f) s p q e (ap (λ (x : List ℕ). p ++ (x ++ q)) (entry-numbers f)) at (sized .class, (sized .subprogram, (omega arith, (sized .size, (omega arith, tt))))) in
-    let class : getD s e 0 ≡ f .class = byte-le s e ∙ h .0 in
-    let subprogram : getD s (e + 1) 0 ≡ f .subprogram = byte-le s (e + 1) ∙ h .1 .0 in
+    let h = held (entryFields f) s p q e (ap (λ (x : List ℕ). p ++ (x ++ q)) (entry-numbers f)) at (sized .class, (sized .subprogram, (omega arith, (sized .size, (omega arith, tt))))) in
+    let class : leAt 1 s (e + 0) ≡ f .class = ap (leAt 1 s) (omega arith) ∙ h .0 in
+    let subprogram : leAt 1 s (e + 1) ≡ f .subprogram = h .1 .0 in
     let size : leAt 4 s (e + 4) ≡ f .size = ap (leAt 4 s) (omega arith) ∙ h .1 .1 .1 .0 in
     let word : leAt 8 s (e + 8) ≡ f .location + f .mode * 2 ^ 62 = ap (leAt 8 s) (omega arith) ∙ h .1 .1 .1 .1 .0 in
     let low : leAt 8 s (e + 8) % 0x4000_0000_0000_0000 ≡ f .location = omega arith in
@@ -145,4 +144,4 @@ entry-again s bytes e h zeros =
     let eight : leAt 8 s (e + 1 + 1 + 2 + 4) ≡ leAt 8 s (e + 8) = ap (leAt 8 s) (omega arith) in
     let word : leAt 8 s (e + 8) ≡ leAt 8 s (e + 8) % 2 ^ 62 + leAt 8 s (e + 8) / 2 ^ 62 * 2 ^ 62 = omega arith in
     entry-numbers (fieldsOf (fieldsAt s e))
-    ∙ held-again (entryNumbers (fieldsOf (fieldsAt s e))) s e bytes h (sym (byte-le s e), (sym (byte-le s (e + 1)), (ap (leAt 2 s) two ∙ zeros, (size, (eight ∙ word, tt)))))
+    ∙ held-again (entryFields (fieldsOf (fieldsAt s e))) s e bytes h (ap (leAt 1 s) (omega arith), (refl, (ap (leAt 2 s) two ∙ zeros, (size, (eight ∙ word, tt)))))

@@ -24,7 +24,7 @@ pub record Startable (level : ℕ) (s : List ℕ) : Type 0 where
 pub record Fits (level : ℕ) (f : Fields) : Type 0 where
   pub location : f .location < 2 ^ 62
   pub mode : f .mode ≤ 3
-  pub placed : (level ≡ 1 → ⊥) → f .class ≡ 0x40 → ⊥
+  pub may-stand : (level ≡ 1 → ⊥) → f .class ≡ 0x40 → ⊥
 
 -- s begins with a good directory of this level and n entries, which can be extended by f: none of them has its type and subprogram
 pub record Extendable (f : Fields) (s : List ℕ) (level n : ℕ) : Type 0 where

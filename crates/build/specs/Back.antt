@@ -6,6 +6,7 @@ use mathlib.Core.List.{List, [], _∷_, _++_}
 use lib.ListN.{length, getD, take, drop}
 use Rattle.le.specs.Le.{putBytes, Bytes}
 use Rattle.reply.specs.Reply.{Reply, given, then}
+use Rattle.reply.specs.Scan.{All}
 use Rattle.directory.specs.Directory.{pspKind, entryPlace, directoryOf, directoryByCookie}
 use Rattle.entries.specs.Entry.{entryOf}
 use Rattle.directory.specs.declared.Directory.{Directory}
@@ -19,11 +20,6 @@ pub record Sized (f : Fields) : Type 0 where
   pub class : f .class < 2 ^ 8
   pub subprogram : f .subprogram < 2 ^ 8
   pub size : f .size < 2 ^ 32
-
--- P holds of each
-pub data Each (P : Fields → Type 0) : List Fields → Type 0 where
-  nothing : Each P []
-  also : {f : Fields} {fs : List Fields} → P f → Each P fs → Each P (f ∷ fs)
 
 -- no entry: what a place past the end of a list of entries counts as
 abbrev pub blank : Fields
@@ -42,12 +38,12 @@ abbrev pub fieldsOf : Entry → Fields
 fieldsOf e = record { class = e .class; subprogram = e .subprogram; size = e .size; location = e .location; mode = e .mode }
 
 -- what the reader tells of the m entries from index i on
-unfoldable pub entriesFrom : List ℕ → Directory → ℕ → ℕ → List Fields
+unfoldable pub entriesFrom : (s : List ℕ) → Directory → (m i : ℕ) → List Fields
 entriesFrom s d zero i = []
 entriesFrom s d (suc m) i = fieldsOf (entryOf pspKind s d i) ∷ entriesFrom s d m (i + 1)
 
 -- what the reader tells of all entries of a directory, in order
-abbrev pub entriesOf : List ℕ → Directory → List Fields
+abbrev pub entriesOf : (s : List ℕ) → Directory → List Fields
 entriesOf s d = entriesFrom s d (d .total) 0
 
 -- the reader finds at the start of s a good directory of this level with exactly these entries, in order
@@ -56,26 +52,26 @@ pub record Holds (level : ℕ) (fs : List Fields) (s : List ℕ) : Type 0 where
   pub entries : entriesOf s (directoryOf 0 level (length fs)) ≡ fs
 
 -- an extend for each entry, in order: the buffer after the last; a refusal ends it
-unfoldable pub extendAll : List Fields → List ℕ → Reply (List ℕ)
+unfoldable pub extendAll : List Fields → (s : List ℕ) → Reply (List ℕ)
 extendAll [] s = given s
 extendAll (f ∷ fs) s = then (extendOf f s) (λ total. extendAll fs (extendedBy f s (given total)))
 
 -- a start, then an extend for each entry
-abbrev pub buildOf : ℕ → List Fields → List ℕ → Reply (List ℕ)
+abbrev pub buildOf : (level : ℕ) → List Fields → (s : List ℕ) → Reply (List ℕ)
 buildOf level fs s = then (startOf level s) (λ total. extendAll fs (startedBy level s (given total)))
 
 -- a directory of this level with these entries can be built in s
 pub record Buildable (level : ℕ) (fs : List Fields) (s : List ℕ) : Type 0 where
   pub either : (level ≡ 1) ⊎ (level ≡ 2)
   pub few : length fs ≤ 512
-  pub fits : Each (Fits level) fs
+  pub fits : All (Fits level) fs
   pub apart : Apart fs
   pub room : 16 + length fs * 16 ≤ length s
 
 -- a start and its extends are all accepted exactly there; the directory's bytes then stand at the buffer's start, and every other byte is kept
 pub record BuildAcceptance : Type 0 where
-  pub only : (level : ℕ) (fs : List Fields) (s t : List ℕ) → Each Sized fs → buildOf level fs s ≡ given t → Buildable level fs s
-  pub all : (level : ℕ) (fs : List Fields) (s : List ℕ) → Each Sized fs → Buildable level fs s → buildOf level fs s ≡ given (putBytes (directoryBytes level fs) s 0)
+  pub only : (level : ℕ) (fs : List Fields) (s t : List ℕ) → All Sized fs → buildOf level fs s ≡ given t → Buildable level fs s
+  pub all : (level : ℕ) (fs : List Fields) (s : List ℕ) → All Sized fs → Buildable level fs s → buildOf level fs s ≡ given (putBytes (directoryBytes level fs) s 0)
 
 -- what is written reads back
 pub record ReadBack : Type 0 where
@@ -85,7 +81,7 @@ pub record ReadBack : Type 0 where
   pub extended : (f : Fields) (s : List ℕ) (d : Directory) (total : ℕ) → Bytes s → Sized f → directoryByCookie pspKind 512 s 0 ≡ given d → extendOf f s ≡ given total →
       Holds (d .level) (entriesOf s d ++ (f ∷ [])) (extendedBy f s (given total))
   -- a start and any list of extends: the entries as given, in order
-  pub built : (level : ℕ) (fs : List Fields) (s t : List ℕ) → Each Sized fs → buildOf level fs s ≡ given t → Holds level fs t
+  pub built : (level : ℕ) (fs : List Fields) (s t : List ℕ) → All Sized fs → buildOf level fs s ≡ given t → Holds level fs t
 
 -- what was accepted is written again as it was
 pub record WrittenAgain : Type 0 where

@@ -3,11 +3,14 @@ ghost use mathlib.Core.Path.{_≡_};
 ghost use Prim.Native.Nat.{_+_, _*_, _-_, _<_, _≤_, _^_};
 ghost use lib.ListN.{length};
 ghost use Rattle.reply.specs.Reply.{given};
-ghost use Rattle.le.specs.Le.{leAt, putBytes};
+ghost use Rattle.le.specs.Le.{putBytes};
+ghost use Rattle.le.specs.Field.{get};
+ghost use Rattle.directory.specs.Header as header;
 ghost use Rattle.directory.specs.Directory.{pspKind, totalAt, checksumAt};
 ghost use Rattle.build.specs.Write.{entryBytes, startOf, startedBy, roomFor, extendOf, extendedBy, toldTotal};
-use directory::Checked;
 use directory::Directory;
+use directory::DirectoryAnswer;
+use directory::Kind;
 use reply::Refusal;
 use window::Offset;
 
@@ -21,69 +24,77 @@ pub struct Fields {
 }
 
 // What a writer answers: the total of the directory it leaves, or why it left the buffer as it was.
-pub enum Total {
+pub enum TotalAnswer {
     Given(u32),
     Refused(Refusal),
 }
 
 // The checksum of a directory with no entries.
 const EMPTY: u32 = 0xFFFF_FFFF;
+// The largest total of a directory.
+const LIMIT: u32 = 512;
+// The bytes of a PSP directory's entry.
+const ENTRY: usize = 16;
 
 // Starts a directory of a level: an empty one is written at the buffer's start, and nothing else.
-pub fn start(buf: &mut [u8], level: u32) -> Total
+pub fn start(buf: &mut [u8], level: u32) -> TotalAnswer
     ensures { λ r. ⌜ toldTotal r ≡ startOf level (now (buf .entry)) ⌝ }
     ensures { λ _. ⌜ now (buf .exit) ≡ startedBy level (now (buf .entry)) (startOf level (now (buf .entry))) ⌝ }
 {
     if level < 1 {
-        return Total::Refused(Refusal::RANGE);
+        return TotalAnswer::Refused(Refusal::RANGE);
     }
     if 2 < level {
-        return Total::Refused(Refusal::RANGE);
+        return TotalAnswer::Refused(Refusal::RANGE);
     }
-    if buf.len() < 16 {
-        return Total::Refused(Refusal::ROOM);
+    if buf.len() < Directory::HEADER {
+        return TotalAnswer::Refused(Refusal::ROOM);
     }
-    le::put32(buf, 0, directory::cookie(directory::psp(), level));
-    le::put32(buf, 4, EMPTY);
-    le::put32(buf, 8, 0);
-    le::put32(buf, 12, 0);
-    Total::Given(0)
+    le::put32(
+        buf,
+        Directory::COOKIE,
+        directory::cookie_of(directory::psp_kind(), level),
+    );
+    le::put32(buf, Directory::CHECKSUM, EMPTY);
+    le::put32(buf, Directory::TOTAL, 0);
+    le::put32(buf, Directory::RESERVED, 0);
+    TotalAnswer::Given(0)
 }
 
 // What is asked of an entry for a good directory in a buffer: the new total.
-fn room_for(buf: &[u8], d: Directory, f: Fields) -> Total
+fn room_for(buf: &[u8], d: Directory, f: Fields) -> TotalAnswer
     ensures { λ r. ⌜ toldTotal r ≡ roomFor f (now (buf .entry)) d ⌝ }
 {
-    let kind = directory::psp();
+    let kind = directory::psp_kind();
     if 0x3FFF_FFFF_FFFF_FFFF < f.location {
-        return Total::Refused(Refusal::FIELD);
+        return TotalAnswer::Refused(Refusal::FIELD);
     }
     if 3 < f.mode {
-        return Total::Refused(Refusal::FIELD);
+        return TotalAnswer::Refused(Refusal::FIELD);
     }
     if directory::may_stand(kind, d.level, f.class) {
-        if entries::holds(buf, kind, d, f.class, f.subprogram) {
-            return Total::Refused(Refusal::REPEATED);
+        if entries::holds_in(buf, kind, d, f.class, f.subprogram) {
+            return TotalAnswer::Refused(Refusal::REPEATED);
         }
-        if 512 <= d.total {
-            return Total::Refused(Refusal::LIMITS);
+        if LIMIT <= d.total {
+            return TotalAnswer::Refused(Refusal::LIMITS);
         }
-        if buf.len() < 16 + (d.total as usize) * 16 + 16 {
-            return Total::Refused(Refusal::ROOM);
+        if buf.len() < Directory::HEADER + (d.total as usize) * ENTRY + ENTRY {
+            return TotalAnswer::Refused(Refusal::ROOM);
         }
-        Total::Given(d.total + 1)
+        TotalAnswer::Given(d.total + 1)
     } else {
-        Total::Refused(Refusal::MISPLACED)
+        TotalAnswer::Refused(Refusal::MISPLACED)
     }
 }
 
 // What an extend by this entry answers, with no byte written.
-pub fn admit(buf: &[u8], f: Fields) -> Total
+pub fn admit(buf: &[u8], f: Fields) -> TotalAnswer
     ensures { λ r. ⌜ toldTotal r ≡ extendOf f (now (buf .entry)) ⌝ }
 {
-    match directory::directory_by_cookie(buf, directory::psp(), 512, Offset(0)) {
-        Checked::Given(d) => room_for(buf, d, f),
-        Checked::Refused(why) => Total::Refused(why),
+    match directory::directory_by_cookie(buf, directory::psp_kind(), LIMIT, Offset(0)) {
+        DirectoryAnswer::Given(d) => room_for(buf, d, f),
+        DirectoryAnswer::Refused(why) => TotalAnswer::Refused(why),
     }
 }
 
@@ -93,11 +104,11 @@ fn put_entry(part: &mut [u8], f: Fields)
     ensures { λ _. ⌜ now (part .exit) ≡ putBytes (entryBytes f) (now (part .entry)) 0 ⌝ }
 {
     let word = f.location + (f.mode as u64) * 0x4000_0000_0000_0000;
-    le::put8(part, 0, f.class);
-    le::put8(part, 1, f.subprogram);
-    le::put16(part, 2, 0);
-    le::put32(part, 4, f.size);
-    le::put64(part, 8, word);
+    le::put8(part, Kind::CLASS, f.class);
+    le::put8(part, Kind::SUBPROGRAM, f.subprogram);
+    le::put16(part, Kind::FLAGS, 0);
+    le::put32(part, Kind::SIZE, f.size);
+    le::put64(part, Kind::LOCATION, word);
 }
 
 // Writes the entry as the last of `total`, the total, and the new checksum. That is made of the old one and the entry's own, with no second pass: the words
@@ -105,29 +116,29 @@ fn put_entry(part: &mut [u8], f: Fields)
 fn append(buf: &mut [u8], f: Fields, total: u32)
     requires { ⌜ (f .location < 2 ^ 62) × (f .mode ≤ 3) ⌝ }
     requires { ⌜ (1 ≤ total) × (total ≤ 512) × (16 + total * 16 ≤ length (now buf)) ⌝ }
-    requires { ⌜ (totalAt (now buf) 0 ≡ total - 1) × (leAt 4 (now buf) 4 ≡ checksumAt pspKind (now buf) 0 (total - 1)) ⌝ }
+    requires { ⌜ (totalAt (now buf) 0 ≡ total - 1) × (get header.checksum (now buf) 0 ≡ checksumAt pspKind (now buf) 0 (total - 1)) ⌝ }
     ensures { λ _. ⌜ now (buf .exit) ≡ extendedBy f (now (buf .entry)) (given total) ⌝ }
 {
-    let at = 16 + (total as usize - 1) * 16;
+    let at = Directory::HEADER + (total as usize - 1) * ENTRY;
     let words = 4 + (total as u16 - 1) * 8;
-    let before = fletcher::raised(le::u32_at(buf, 4), words);
+    let before = fletcher::raised(le::u32_at(buf, Directory::CHECKSUM), words);
     put_entry(&mut buf[at..], f);
-    le::put32(buf, 8, total);
-    let end = at + 16;
+    le::put32(buf, Directory::TOTAL, total);
+    let end = at + ENTRY;
     let entry = fletcher::fletcher(&buf[at..end]);
-    le::put32(buf, 4, fletcher::joined(before, 8, entry));
+    le::put32(buf, Directory::CHECKSUM, fletcher::joined(before, 8, entry));
 }
 
 // Extends the directory at the buffer's start by one entry: the new total. Refused, every byte is kept.
-pub fn extend(buf: &mut [u8], f: Fields) -> Total
+pub fn extend(buf: &mut [u8], f: Fields) -> TotalAnswer
     ensures { λ r. ⌜ toldTotal r ≡ extendOf f (now (buf .entry)) ⌝ }
     ensures { λ _. ⌜ now (buf .exit) ≡ extendedBy f (now (buf .entry)) (extendOf f (now (buf .entry))) ⌝ }
 {
     match admit(buf, f) {
-        Total::Given(total) => {
+        TotalAnswer::Given(total) => {
             append(buf, f, total);
-            Total::Given(total)
+            TotalAnswer::Given(total)
         }
-        Total::Refused(why) => Total::Refused(why),
+        TotalAnswer::Refused(why) => TotalAnswer::Refused(why),
     }
 }

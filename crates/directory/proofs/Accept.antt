@@ -12,47 +12,47 @@ use Rattle.le.specs.Le.{leAt}
 use Rattle.reply.specs.Reply.{Reply, given, refused, alone}
 use Rattle.reply.proofs.ReplyLaws.{past, passed, failed, clash}
 use Rattle.reply.proofs.ScanLaws.{scan-kept, scan-through}
-use Rattle.directory.specs.Directory.{cookieOf, totalAt, entryPlace, checksumAt, reservedZero, placedIn, wellPlaced, mayRepeat, entryStep, directoryOf, entriesAt, directoryAt, directoryByCookie}
+use Rattle.directory.specs.Directory.{cookieOf, totalAt, entryPlace, checksumAt, reservedZero, classAt, mayStand, mayRepeat, entryStep, directoryOf, entriesAt, directoryAt, directoryByCookie}
 use Rattle.directory.specs.Good.{GoodEntry, First, GoodDirectory, Acceptance, CookieAcceptance}
 use Rattle.directory.proofs.Heads.{first-fact, first-test}
 use Rattle.directory.specs.declared.Kind.{Kind}
 use Rattle.directory.specs.declared.Directory.{Directory}
 
 -- the test of a misplaced lead, as a fact and back
-module _ (kind : Kind) (level type : ℕ) where
-  pub placed-fact : placedIn kind level type ≡ true → (level ≡ 1 → ⊥) → type ≡ kind .lead → ⊥
-  placed-fact h l = eqb-false _ _ (not-true _ (rw (ne-eqb level 1 l) at h))
+module _ (kind : Kind) (level class : ℕ) where
+  pub stand-fact : mayStand kind level class ≡ true → (level ≡ 1 → ⊥) → class ≡ kind .lead → ⊥
+  stand-fact h l = eqb-false _ _ (not-true _ (rw (ne-eqb level 1 l) at h))
 
-  pub placed-test : ((level ≡ 1 → ⊥) → type ≡ kind .lead → ⊥) → placedIn kind level type ≡ true
-  placed-test h = by (eqb level 1) refl
+  pub stand-test : ((level ≡ 1 → ⊥) → class ≡ kind .lead → ⊥) → mayStand kind level class ≡ true
+  stand-test h = by (eqb level 1) refl
     where
-      by : (b : Bool) → eqb level 1 ≡ b → cond b true (not (eqb type (kind .lead))) ≡ true
+      by : (b : Bool) → eqb level 1 ≡ b → cond b true (not (eqb class (kind .lead))) ≡ true
       by true q = refl
       by false q = ap not (ne-eqb _ _ (h (eqb-false _ _ q)))
 
 module _ (kind : Kind) (level : ℕ) (s : List ℕ) where
   module _ (limit o : ℕ) where
-    step-fact : (d : Directory) (i : ℕ) (rest : Reply Directory) → entryStep kind level s o i rest ≡ given d → (GoodEntry kind level s (entryPlace kind o i) × First kind s o i) × (rest ≡ given d)
+    step-fact : (d : Directory) (i : ℕ) (rest : Reply Directory) → entryStep kind level s o i rest ≡ given d → (GoodEntry kind level s o i × First kind s o i) × (rest ≡ given d)
     step-fact d i rest e =
-        let g = past (reservedZero kind s (entryPlace kind o i)) _ _ _ e in
-        let h = past (wellPlaced kind level s (entryPlace kind o i)) _ _ _ (g .1) in
+        let g = past (reservedZero kind s o i) _ _ _ e in
+        let h = past (mayStand kind level (classAt kind s o i)) _ _ _ (g .1) in
         let f = past (mayRepeat kind s o i) _ _ _ (h .1) in
-        ((record { reserved = ltb-true _ _ (g .0); placed = placed-fact kind level (getD s (entryPlace kind o i) 0) (h .0) }, first-fact kind s o i (f .0)), f .1)
+        ((record { reserved = eqb-true _ _ (g .0); may-stand = stand-fact kind level (leAt 1 s (entryPlace kind o i + 0)) (h .0) }, first-fact kind s o i (f .0)), f .1)
 
-    step-pass : (i : ℕ) (rest : Reply Directory) → GoodEntry kind level s (entryPlace kind o i) × First kind s o i → entryStep kind level s o i rest ≡ rest
-    step-pass i rest g = passed _ _ _ _ (lt-ltb _ _ (g .0 .reserved)) ∙ passed _ _ _ _ (placed-test kind level (getD s (entryPlace kind o i) 0) (g .0 .placed)) ∙ passed _ _ _ _ (first-test kind s o i (g .1))
+    step-pass : (i : ℕ) (rest : Reply Directory) → GoodEntry kind level s o i × First kind s o i → entryStep kind level s o i rest ≡ rest
+    step-pass i rest g = passed _ _ _ _ (eq-eqb _ _ (g .0 .reserved)) ∙ passed _ _ _ _ (stand-test kind level (leAt 1 s (entryPlace kind o i + 0)) (g .0 .may-stand)) ∙ passed _ _ _ _ (first-test kind s o i (g .1))
 
     pub only-good : (d : Directory) → directoryAt kind limit level s o ≡ given d → GoodDirectory kind limit s d × (d .place .0 ≡ o) × (d .level ≡ level)
     unfolding directoryAt
     only-good d e =
         let n = totalAt s o in
         let h1 = past (leb (o + 16) (length s)) _ _ _ e in
-        let h2 = past (eqb (leAt 4 s o) (cookieOf kind level)) _ _ _ (h1 .1) in
+        let h2 = past (eqb (leAt 4 s (o + 0)) (cookieOf kind level)) _ _ _ (h1 .1) in
         let h3 = past (leb n limit) _ _ _ (h2 .1) in
         let h4 = past (leb (entryPlace kind o n) (length s)) _ _ _ (h3 .1) in
         let h5 = past (eqb (leAt 4 s (o + 4)) (checksumAt kind s o n)) _ _ _ (h4 .1) in
         let h6 = past (eqb (leAt 4 s (o + 12)) 0) _ _ _ (h5 .1) in
-        let w = scan-kept (entryStep kind level s o) (λ _. given (directoryOf o level n)) (λ i. GoodEntry kind level s (entryPlace kind o i) × First kind s o i) d (step-fact d) n 0 (h6 .1) in
+        let w = scan-kept (entryStep kind level s o) (λ _. given (directoryOf o level n)) (λ i. GoodEntry kind level s o i × First kind s o i) d (step-fact d) n 0 (h6 .1) in
         let q : directoryOf o level n ≡ d = cc (w .1) in
         subst (λ (d : Directory). GoodDirectory kind limit s d × (d .place .0 ≡ o) × (d .level ≡ level)) q (
           record {
@@ -76,7 +76,7 @@ all-good kind limit s d g =
     let level = d .level in
     let head : o + 16 ≤ length s = let p = g .present in omega arith in
     simp (le-leb _ _ head, eq-eqb _ _ (g .cookie), g .total, le-leb _ _ (g .few), le-leb _ _ (g .present), eq-eqb _ _ (g .checksum), eq-eqb _ _ (g .reserved))
-    (scan-through (entryStep kind level s o) (λ _. given d) (λ i. GoodEntry kind level s (entryPlace kind o i) × First kind s o i) (step-pass kind level s limit o) (d .total) 0 (λ j a b. (g .entries j (omega arith), g .first j (omega arith))))
+    (scan-through (entryStep kind level s o) (λ _. given d) (λ i. GoodEntry kind level s o i × First kind s o i) (step-pass kind level s limit o) (d .total) 0 (λ j a b. (g .entries j (omega arith), g .first j (omega arith))))
 
 pub acceptance : Acceptance
 acceptance = record { only = λ kind limit level s o. only-good kind level s limit o; all = all-good }
@@ -84,16 +84,16 @@ acceptance = record { only = λ kind limit level s o. only-good kind level s lim
 module _ (kind : Kind) (limit : ℕ) (s : List ℕ) where
   only-cookie : (o : ℕ) (d : Directory) → directoryByCookie kind limit s o ≡ given d → GoodDirectory kind limit s d × (d .place .0 ≡ o) × ((d .level ≡ 1) ⊎ (d .level ≡ 2))
   unfolding directoryByCookie
-  only-cookie o d e = one (eqb (leAt 4 s o) (kind .one)) (past (leb (o + 16) (length s)) _ _ _ e .1)
+  only-cookie o d e = one (eqb (leAt 4 s (o + 0)) (kind .one)) (past (leb (o + 16) (length s)) _ _ _ e .1)
     where
       two : (b : Bool) → cond b (directoryAt kind limit 2 s o) (refused 2 alone) ≡ given d → GoodDirectory kind limit s d × (d .place .0 ≡ o) × ((d .level ≡ 1) ⊎ (d .level ≡ 2))
       two true h = let g = only-good kind 2 s limit o d h in (g .0, g .1, inr (g .2))
       two false h = clash h
 
-      one : (b : Bool) → cond b (directoryAt kind limit 1 s o) (cond (eqb (leAt 4 s o) (kind .two)) (directoryAt kind limit 2 s o) (refused 2 alone)) ≡ given d →
+      one : (b : Bool) → cond b (directoryAt kind limit 1 s o) (cond (eqb (leAt 4 s (o + 0)) (kind .two)) (directoryAt kind limit 2 s o) (refused 2 alone)) ≡ given d →
           GoodDirectory kind limit s d × (d .place .0 ≡ o) × ((d .level ≡ 1) ⊎ (d .level ≡ 2))
       one true h = let g = only-good kind 1 s limit o d h in (g .0, g .1, inl (g .2))
-      one false h = two (eqb (leAt 4 s o) (kind .two)) h
+      one false h = two (eqb (leAt 4 s (o + 0)) (kind .two)) h
 
   all-cookie : (d : Directory) → (kind .one ≡ kind .two → ⊥) → GoodDirectory kind limit s d → (d .level ≡ 1) ⊎ (d .level ≡ 2) → directoryByCookie kind limit s (d .place .0) ≡ given d
   unfolding directoryByCookie
@@ -104,11 +104,11 @@ module _ (kind : Kind) (limit : ℕ) (s : List ℕ) where
 
       by : (d .level ≡ 1) ⊎ (d .level ≡ 2) → directoryByCookie kind limit s (d .place .0) ≡ given d
       by (inl e) =
-          let c : leAt 4 s (d .place .0) ≡ kind .one = g .cookie ∙ ap (cookieOf kind) e in
+          let c : leAt 4 s (d .place .0 + 0) ≡ kind .one = g .cookie ∙ ap (cookieOf kind) e in
           simp (le-leb _ _ head, eq-eqb _ _ c) (ap (λ (l : ℕ). directoryAt kind limit l s (d .place .0)) (sym e) ∙ all-good kind limit s d g)
       by (inr e) =
-          let c : leAt 4 s (d .place .0) ≡ kind .two = g .cookie ∙ ap (cookieOf kind) e in
-          simp (le-leb _ _ head, ne-eqb (leAt 4 s (d .place .0)) (kind .one) (λ q. apart (sym q ∙ c)), eq-eqb _ _ c) (ap (λ (l : ℕ). directoryAt kind limit l s (d .place .0)) (sym e) ∙ all-good kind limit s d g)
+          let c : leAt 4 s (d .place .0 + 0) ≡ kind .two = g .cookie ∙ ap (cookieOf kind) e in
+          simp (le-leb _ _ head, ne-eqb (leAt 4 s (d .place .0 + 0)) (kind .one) (λ q. apart (sym q ∙ c)), eq-eqb _ _ c) (ap (λ (l : ℕ). directoryAt kind limit l s (d .place .0)) (sym e) ∙ all-good kind limit s d g)
 
 pub cookie-acceptance : CookieAcceptance
 cookie-acceptance = record { only = only-cookie; all = all-cookie }

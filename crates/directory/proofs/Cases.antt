@@ -14,7 +14,7 @@ use Rattle.directory.specs.declared.Kind.{Kind}
 use Rattle.directory.specs.declared.Directory.{Directory}
 
 -- where 16 bytes are present, and a number was found at the start
-module _ (kind : Kind) (limit : ℕ) (s : List ℕ) (o found : ℕ) (is : found ≡ leAt 4 s o) (head : o + 16 ≤ length s) where
+module _ (kind : Kind) (limit : ℕ) (s : List ℕ) (o found : ℕ) (is : found ≡ leAt 4 s (o + 0)) (head : o + 16 ≤ length s) where
   -- of the level asked for
   module _ (level cookie : ℕ) (named : cookie ≡ cookieOf kind level) where
     pub at-signature : (found ≡ cookie → ⊥) → refused 2 alone ≡ directoryAt kind limit level s o
@@ -45,13 +45,13 @@ module _ (kind : Kind) (limit : ℕ) (s : List ℕ) (o found : ℕ) (is : found 
   -- of the level that the cookie names
   pub by-one : found ≡ kind .one → (r : Reply Directory) → r ≡ directoryAt kind limit 1 s o → r ≡ directoryByCookie kind limit s o
   unfolding directoryByCookie
-  by-one e r h = rw (le-leb (o + 16) (length s) head, eq-eqb (leAt 4 s o) (kind .one) (sym is ∙ e)) h
+  by-one e r h = rw (le-leb (o + 16) (length s) head, eq-eqb (leAt 4 s (o + 0)) (kind .one) (sym is ∙ e)) h
 
   module _ (other : found ≡ kind .one → ⊥) where
     pub by-two : found ≡ kind .two → (r : Reply Directory) → r ≡ directoryAt kind limit 2 s o → r ≡ directoryByCookie kind limit s o
     unfolding directoryByCookie
-    by-two e r h = rw (le-leb (o + 16) (length s) head, ne-eqb (leAt 4 s o) (kind .one) (λ q. other (is ∙ q)), eq-eqb (leAt 4 s o) (kind .two) (sym is ∙ e)) h
+    by-two e r h = rw (le-leb (o + 16) (length s) head, ne-eqb (leAt 4 s (o + 0)) (kind .one) (λ q. other (is ∙ q)), eq-eqb (leAt 4 s (o + 0)) (kind .two) (sym is ∙ e)) h
 
     pub by-neither : (found ≡ kind .two → ⊥) → refused 2 alone ≡ directoryByCookie kind limit s o
     unfolding directoryByCookie
-    by-neither n = rw (le-leb (o + 16) (length s) head, ne-eqb (leAt 4 s o) (kind .one) (λ q. other (is ∙ q)), ne-eqb (leAt 4 s o) (kind .two) (λ q. n (is ∙ q)))
+    by-neither n = rw (le-leb (o + 16) (length s) head, ne-eqb (leAt 4 s (o + 0)) (kind .one) (λ q. other (is ∙ q)), ne-eqb (leAt 4 s (o + 0)) (kind .two) (λ q. n (is ∙ q)))

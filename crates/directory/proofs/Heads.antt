@@ -3,12 +3,13 @@ use mathlib.Core.Path.{_≡_, refl, sym, ap, ap₂, _∙_}
 use mathlib.Core.List.{List}
 use mathlib.Core.Bool.{Bool, true, false, not, _&&_, _||_}
 use Prim.Native.Nat.{ℕ, _+_, _*_, _/_, _%_, _<_, _≤_}
+use native.Mathlib.Nat.{add-zero}
 use native.Mathlib.Omega.{arith}
 use borrow.Author.Tests.{eqb-true, eqb-false, not-true, eq-eqb, ne-eqb}
 use lib.ListN.{getD}
 use lib.Dec.{eqb}
 use Rattle.le.specs.Le.{leAt, Bytes}
-use Rattle.le.proofs.Laws.{le-split, byte-le}
+use Rattle.le.proofs.Laws.{le-split, le-small}
 use Rattle.reply.proofs.ReplyLaws.{apart}
 use Rattle.reply.specs.Some.{someBelow}
 use Rattle.reply.proofs.SomeLaws.{some-same, some-false, none-below}
@@ -21,23 +22,23 @@ use Rattle.directory.specs.declared.Kind.{Kind}
 
 -- what the first four bytes of entry i tell
 module _ (kind : Kind) (s : List ℕ) (o : ℕ) (bytes : Bytes s) where
-  head-parts : (i : ℕ) → headAt kind s o i ≡ getD s (entryPlace kind o i) 0 + 256 * getD s (entryPlace kind o i + 1) 0 + 65536 * leAt 2 s (entryPlace kind o i + 2)
+  head-parts : (i : ℕ) → headAt kind s o i ≡ leAt 1 s (entryPlace kind o i + 0) + 256 * leAt 1 s (entryPlace kind o i + 1) + 65536 * leAt 2 s (entryPlace kind o i + 2)
   head-parts i = le-split 2 2 s (entryPlace kind o i) ∙ ap (λ (x : ℕ). x + 65536 * leAt 2 s (entryPlace kind o i + 2)) (two (entryPlace kind o i))
     where
-      two : (e : ℕ) → leAt 2 s e ≡ getD s e 0 + 256 * getD s (e + 1) 0
-      two e = le-split 1 1 s e ∙ ap₂ (λ (x y : ℕ). x + 256 * y) (sym (byte-le s e)) (sym (byte-le s (e + 1)))
+      two : (e : ℕ) → leAt 2 s e ≡ leAt 1 s (e + 0) + 256 * leAt 1 s (e + 1)
+      two e = le-split 1 1 s e ∙ ap (λ (x : ℕ). leAt 1 s x + 256 * leAt 1 s (e + 1)) (sym (add-zero e))
 
   pub head-reserved : (i : ℕ) → headAt kind s o i / 65536 ≡ leAt 2 s (entryPlace kind o i + 2)
-  head-reserved i = let a = bytes (entryPlace kind o i) in let b = bytes (entryPlace kind o i + 1) in omega (arith, head-parts i)
+  head-reserved i = let a = le-small s bytes 1 (entryPlace kind o i + 0) in let b = le-small s bytes 1 (entryPlace kind o i + 1) in omega (arith, head-parts i)
 
-  pub head-type : (i : ℕ) → headAt kind s o i % 256 ≡ getD s (entryPlace kind o i) 0
-  head-type i = let a = bytes (entryPlace kind o i) in omega (arith, head-parts i)
+  pub head-type : (i : ℕ) → headAt kind s o i % 256 ≡ leAt 1 s (entryPlace kind o i + 0)
+  head-type i = let a = le-small s bytes 1 (entryPlace kind o i + 0) in omega (arith, head-parts i)
 
-  pub head-pair : (i : ℕ) → (headAt kind s o i % 65536) ≡ getD s (entryPlace kind o i) 0 + 256 * getD s (entryPlace kind o i + 1) 0
-  head-pair i = let a = bytes (entryPlace kind o i) in let b = bytes (entryPlace kind o i + 1) in omega (arith, head-parts i)
+  pub head-pair : (i : ℕ) → (headAt kind s o i % 65536) ≡ leAt 1 s (entryPlace kind o i + 0) + 256 * leAt 1 s (entryPlace kind o i + 1)
+  head-pair i = let a = le-small s bytes 1 (entryPlace kind o i + 0) in let b = le-small s bytes 1 (entryPlace kind o i + 1) in omega (arith, head-parts i)
 
   same-pair : (i j : ℕ) → eqb ((headAt kind s o j % 65536)) ((headAt kind s o i % 65536)) ≡ sameEntry kind s o i j
-  same-pair i j = ap₂ eqb (head-pair j) (head-pair i) ∙ both (getD s (entryPlace kind o j) 0) (getD s (entryPlace kind o i) 0) (getD s (entryPlace kind o j + 1) 0) (getD s (entryPlace kind o i + 1) 0) (bytes _) (bytes _)
+  same-pair i j = ap₂ eqb (head-pair j) (head-pair i) ∙ both (leAt 1 s (entryPlace kind o j + 0)) (leAt 1 s (entryPlace kind o i + 0)) (leAt 1 s (entryPlace kind o j + 1)) (leAt 1 s (entryPlace kind o i + 1)) (le-small s bytes 1 _) (le-small s bytes 1 _)
     where
       both : (t u a b : ℕ) → t < 256 → u < 256 → eqb (t + 256 * a) (u + 256 * b) ≡ (eqb t u && eqb a b)
       both t u a b x y = by (eqb t u) refl (eqb a b) refl
@@ -75,7 +76,7 @@ module _ (kind : Kind) (s : List ℕ) (o i : ℕ) where
   pub first-test : First kind s o i → mayRepeat kind s o i ≡ true
   first-test h = by (kind .repeats) refl
     where
-      alike : (j : ℕ) → (b c : Bool) → eqb (getD s (entryPlace kind o j) 0) (getD s (entryPlace kind o i) 0) ≡ b → eqb (getD s (entryPlace kind o j + 1) 0) (getD s (entryPlace kind o i + 1) 0) ≡ c →
+      alike : (j : ℕ) → (b c : Bool) → eqb (leAt 1 s (entryPlace kind o j + 0)) (leAt 1 s (entryPlace kind o i + 0)) ≡ b → eqb (leAt 1 s (entryPlace kind o j + 1)) (leAt 1 s (entryPlace kind o i + 1)) ≡ c →
           (Alike kind s o i j → ⊥) → (b && c) ≡ false
       alike j true true x y n = absurd (n (eqb-true _ _ x, eqb-true _ _ y))
       alike j true false x y n = refl

@@ -15,7 +15,7 @@ use Rattle.le.proofs.Part.{part-same}
 use Rattle.reply.specs.Reply.{Reply, given, refused, alone, check, then}
 use Rattle.reply.proofs.ReplyLaws.{check-same, then-same}
 use Rattle.reply.proofs.ScanLaws.{scan-same}
-use Rattle.directory.specs.Directory.{totalAt, entryPlace, sameEntry, mayRepeat, entryStep, directoryOf, entriesAt, directoryAt, directoryByCookie}
+use Rattle.directory.specs.Directory.{totalAt, entryPlace, classAt, subprogramAt, sameEntry, mayRepeat, entryStep, directoryOf, entriesAt, directoryAt, directoryByCookie}
 use Rattle.directory.specs.Independent.{Agree, endOf, Independence}
 use Rattle.reply.proofs.SomeLaws.{some-same}
 use Rattle.directory.specs.declared.Kind.{Kind}
@@ -32,14 +32,14 @@ module _ (kind : Kind) (s t : List ℕ) (o n : ℕ) (wide : 16 ≤ kind .entry) 
       let a : (i + 1) * kind .entry ≤ n * kind .entry = mul-le-mul-right (kind .entry) (omega arith) in
       omega (arith, add-mul i 1 (kind .entry))
 
-  pub first : (i : ℕ) → i < n → getD s (entryPlace kind o i) 0 ≡ getD t (entryPlace kind o i) 0
-  first i h = let l = before-end i h in agree .same _ (omega arith) (omega arith)
-
   pub number : (i : ℕ) → i < n → (m b : ℕ) → b + m ≤ 16 → leAt m s (entryPlace kind o i + b) ≡ leAt m t (entryPlace kind o i + b)
   number i h m b w = let l = before-end i h in le-same m s t _ (λ j x y. agree .same j (omega arith) (omega arith))
 
-  pub second : (i : ℕ) → i < n → getD s (entryPlace kind o i + 1) 0 ≡ getD t (entryPlace kind o i + 1) 0
-  second i h = let l = before-end i h in agree .same _ (omega arith) (omega arith)
+  pub first : (i : ℕ) → i < n → classAt kind s o i ≡ classAt kind t o i
+  first i h = number i h 1 0 (omega arith)
+
+  pub second : (i : ℕ) → i < n → subprogramAt kind s o i ≡ subprogramAt kind t o i
+  second i h = number i h 1 1 (omega arith)
 
   may-same : (i : ℕ) → i < n → mayRepeat kind s o i ≡ mayRepeat kind t o i
   may-same i h =
@@ -58,11 +58,11 @@ module _ (kind : Kind) (limit : ℕ) (s t : List ℕ) (o : ℕ) (wide : 16 ≤ k
       let n = totalAt s o in
       let part = part-same (8 + n * kind .entry) (o + 8) s t (agree .long) (λ j x y. agree .same j (omega arith) (omega arith)) in
       let number = head kind s t o n wide agree in
-      rw (entries-same kind s t o n wide agree level, part, agree .long, number 4 o (omega arith) (omega arith), number 4 (o + 8) (omega arith) (omega arith), number 4 (o + 4) (omega arith) (omega arith), number 4 (o + 12) (omega arith) (omega arith))
+      rw (entries-same kind s t o n wide agree level, part, agree .long, number 4 (o + 0) (omega arith) (omega arith), number 4 (o + 8) (omega arith) (omega arith), number 4 (o + 4) (omega arith) (omega arith), number 4 (o + 12) (omega arith) (omega arith))
 
   cookie-same : directoryByCookie kind limit s o ≡ directoryByCookie kind limit t o
   unfolding directoryByCookie
-  cookie-same = rw (directory-same 1, directory-same 2, agree .long, head kind s t o (totalAt s o) wide agree 4 o (omega arith) (omega arith))
+  cookie-same = rw (directory-same 1, directory-same 2, agree .long, head kind s t o (totalAt s o) wide agree 4 (o + 0) (omega arith) (omega arith))
 
 pub independence : Independence
 independence = record {

@@ -13,7 +13,7 @@ use Rattle.reply.specs.Scan.{scan}
 use Rattle.reply.specs.Some.{someBelow, firstBelow}
 use Rattle.reply.proofs.ReplyLaws.{clash, apart}
 use Rattle.reply.proofs.SomeLaws.{some-true, some-first, Found, first-found, none-below}
-use Rattle.directory.specs.Directory.{cookieOf, totalAt, entryPlace, checksumAt, reservedZero, wellPlaced, sameEntry, repeatsEarlier, mayRepeat, entryStep, directoryOf, entriesAt, directoryAt}
+use Rattle.directory.specs.Directory.{cookieOf, totalAt, entryPlace, checksumAt, classAt, reservedZero, mayStand, sameEntry, repeatsEarlier, mayRepeat, entryStep, directoryOf, entriesAt, directoryAt}
 use Rattle.directory.specs.Repeat.{earlierOf, repeatIn, namedBy, repeatedAt}
 use Rattle.directory.specs.Good.{Alike, FirstRepeat, NamesBoth}
 use Rattle.directory.specs.declared.Kind.{Kind}
@@ -32,7 +32,7 @@ module _ (kind : Kind) (level : ℕ) (s : List ℕ) (o : ℕ) (c : Carried) wher
   unfolding scan
   stopped last never zero i e = absurd (never i e)
   stopped last never (suc m) i e =
-      by (mayRepeat kind s o i) refl (past-18 (wellPlaced kind level s (entryPlace kind o i)) 14 _ (λ z. omega arith) (past-18 (reservedZero kind s (entryPlace kind o i)) 5 _ (λ z. omega arith) e)) (stopped last never m (i + 1))
+      by (mayRepeat kind s o i) refl (past-18 (mayStand kind level (classAt kind s o i)) 14 _ (λ z. omega arith) (past-18 (reservedZero kind s o i) 5 _ (λ z. omega arith) e)) (stopped last never m (i + 1))
     where
       by : (b : Bool) → mayRepeat kind s o i ≡ b → guard b 18 (scan (entryStep kind level s o) last m (i + 1)) ≡ refused 18 c →
           (scan (entryStep kind level s o) last m (i + 1) ≡ refused 18 c → (k : ℕ) × (i + 1 ≤ k) × (k < i + 1 + m) × (mayRepeat kind s o k ≡ false)) → (k : ℕ) × (i ≤ k) × (k < i + suc m) × (mayRepeat kind s o k ≡ false)
@@ -51,7 +51,7 @@ module _ (kind : Kind) (limit level : ℕ) (s : List ℕ) (o : ℕ) (c : Carried
   some-repeats e =
       let n = totalAt s o in
       let e1 = past-18 (leb (o + 16) (length s)) 1 _ (λ z. omega arith) e in
-      let e2 = past-18 (eqb (leAt 4 s o) (cookieOf kind level)) 2 _ (λ z. omega arith) e1 in
+      let e2 = past-18 (eqb (leAt 4 s (o + 0)) (cookieOf kind level)) 2 _ (λ z. omega arith) e1 in
       let e3 = past-18 (leb n limit) 3 _ (λ z. omega arith) e2 in
       let e4 = past-18 (leb (entryPlace kind o n) (length s)) 1 _ (λ z. omega arith) e3 in
       let e5 = past-18 (eqb (leAt 4 s (o + 4)) (checksumAt kind s o n)) 4 _ (λ z. omega arith) e4 in
@@ -61,7 +61,7 @@ module _ (kind : Kind) (limit level : ℕ) (s : List ℕ) (o : ℕ) (c : Carried
 
 module _ (kind : Kind) (s : List ℕ) (o n : ℕ) where
   alike-fact : (i j : ℕ) → sameEntry kind s o i j ≡ true → Alike kind s o i j
-  alike-fact i j h = let g = and-eq-true-iff (eqb (getD s (entryPlace kind o j) 0) (getD s (entryPlace kind o i) 0)) _ .0 h in (eqb-true _ _ (g .0), eqb-true _ _ (g .1))
+  alike-fact i j h = let g = and-eq-true-iff (eqb (leAt 1 s (entryPlace kind o j + 0)) (leAt 1 s (entryPlace kind o i + 0))) _ .0 h in (eqb-true _ _ (g .0), eqb-true _ _ (g .1))
 
   alike-test : (i j : ℕ) → Alike kind s o i j → sameEntry kind s o i j ≡ true
   alike-test i j a = rw (eq-eqb _ _ (a .0), eq-eqb _ _ (a .1))

@@ -2,21 +2,22 @@
 use mathlib.Core.Path.{_≡_, refl, sym, ap, ap₂, _∙_}
 use mathlib.Core.List.{List}
 use mathlib.Core.Bool.{Bool, true, false, not, cond, _&&_, _||_}
-use Prim.Native.Nat.{ℕ, zero, suc, _+_, _*_, _-_, _/_, _%_, _<_, _≤_}
-use native.Mathlib.Nat.{mul-le-mul-right, add-mul}
+use Prim.Native.Nat.{ℕ, zero, suc, _+_, _*_, _-_, _/_, _%_, _^_, _<_, _≤_}
+use native.Mathlib.Nat.{mul-le-mul-right, add-mul, div-eq-of-lt, div-div-eq-div-mul, le-div-iff-mul-le, pow-le-pow-right}
 use native.Mathlib.Omega.{arith}
-use borrow.Author.Tests.{lt-ltb, le-ltb, ltb-true, ltb-false}
+use borrow.Author.Tests.{lt-ltb, le-ltb, ltb-true, ltb-false, eq-eqb, ne-eqb}
 use lib.ListN.{getD}
-use lib.Dec.{ltb}
-use Rattle.le.specs.Le.{Bytes}
+use lib.Pow.{pow-pos}
+use lib.Dec.{ltb, eqb}
+use Rattle.le.specs.Le.{Bytes, bitsFrom}
 use Rattle.reply.specs.Reply.{Reply, given, refused, alone}
 use Rattle.reply.specs.Scan.{scan, Lowest}
 use Rattle.reply.specs.Some.{someBelow, firstBelow}
 use Rattle.reply.proofs.ReplyLaws.{passed, failed, apart}
 use Rattle.reply.proofs.ScanLaws.{scan-start, scan-end, scan-stop, scan-pass}
 use Rattle.reply.proofs.SomeLaws.{none-below, some-lowest, Found}
-use Rattle.directory.specs.Directory.{entryPlace, reservedZero, placedIn, wellPlaced, repeatsEarlier, mayRepeat, entryStep, directoryOf, entriesAt}
-use Rattle.directory.specs.Looks.{headAt, faultyHead, faultyAt, badAt, endedAt}
+use Rattle.directory.specs.Directory.{entryPlace, classAt, reservedZero, mayStand, repeatsEarlier, mayRepeat, entryStep, directoryOf, entriesAt}
+use Rattle.directory.specs.Looks.{headAt, flagsUsed, clearBelow, faultyHead, faultyAt, badAt, endedAt}
 use Rattle.directory.specs.declared.Kind.{Kind}
 use Rattle.directory.specs.declared.Directory.{Directory}
 use Rattle.directory.proofs.Heads.{head-reserved, head-type, may-first, may-not, may-any}
@@ -33,13 +34,34 @@ fewer-inside kind o n m len h l =
     let a : m * kind .entry ≤ n * kind .entry = mul-le-mul-right (kind .entry) l in
     omega arith
 
--- below a bound on its high half
-pub head-below : (head bound : ℕ) → ltb head (65536 * bound) ≡ ltb (head / 65536) bound
-head-below head bound = by (ltb (head / 65536) bound) refl
+-- at most sixteen
+pub few-flags : (used : ℕ) → flagsUsed used ≤ 16
+few-flags used = by (ltb used 16) refl
   where
-    by : (b : Bool) → ltb (head / 65536) bound ≡ b → ltb head (65536 * bound) ≡ b
-    by true q = lt-ltb head (65536 * bound) (let l : head / 65536 < bound = ltb-true _ _ q in omega arith)
-    by false q = le-ltb head (65536 * bound) (let l : bound ≤ head / 65536 = ltb-false _ _ q in omega arith)
+    by : (b : Bool) → ltb used 16 ≡ b → cond b used 16 ≤ 16
+    by true q = let l : used < 16 = ltb-true used 16 q in omega arith
+    by false q = omega arith
+
+-- the one comparison says that the flags from bit `used` up are zero
+pub reserved-test : (used head : ℕ) → head < 2 ^ 32 → ltb head (clearBelow used) ≡ eqb (bitsFrom used (head / 65536)) 0
+reserved-test used head small = by (ltb used 16) refl ∙ ap (λ (x : ℕ). eqb x 0) (sym (div-div-eq-div-mul head 65536 (2 ^ used)))
+  where
+    below : (p : ℕ) → 0 < p → ltb head p ≡ eqb (head / p) 0
+    below p pos = at (ltb head p) refl
+      where
+        at : (b : Bool) → ltb head p ≡ b → b ≡ eqb (head / p) 0
+        at true q = sym (eq-eqb (head / p) 0 (div-eq-of-lt (ltb-true head p q)))
+        at false q =
+            let h : p ≤ head = ltb-false head p q in
+            let one : 1 ≤ head / p = le-div-iff-mul-le pos .1 (omega arith) in
+            sym (ne-eqb (head / p) 0 (λ z. omega arith))
+
+    by : (b : Bool) → ltb used 16 ≡ b → ltb head (65536 * 2 ^ cond b used 16) ≡ eqb (head / (65536 * 2 ^ used)) 0
+    by true q = below (65536 * 2 ^ used) (let z : 0 < 2 ^ used = pow-pos used in omega arith)
+    by false q =
+        let high : 16 ≤ used = ltb-false used 16 q in
+        let p : 2 ^ 16 ≤ 2 ^ used = pow-le-pow-right (omega arith) high in
+        lt-ltb head (65536 * 2 ^ 16) (omega arith) ∙ sym (eq-eqb (head / (65536 * 2 ^ used)) 0 (div-eq-of-lt (let z : head < 65536 * 2 ^ used = omega arith in z)))
 
 -- neither of two
 pub or-false : (a b : Bool) → (a || b) ≡ false → (a ≡ false) × (b ≡ false)
@@ -58,22 +80,22 @@ one-fails true false e q = refl
 one-fails false b e q = apart q refl
 
 module _ (kind : Kind) (level : ℕ) (s : List ℕ) (o n : ℕ) (bytes : Bytes s) where
-  reserved-is : (i : ℕ) → ltb (headAt kind s o i / 65536) (kind .clear) ≡ reservedZero kind s (entryPlace kind o i)
-  reserved-is i = ap (λ (x : ℕ). ltb x (kind .clear)) (head-reserved kind s o bytes i)
+  reserved-is : (i : ℕ) → eqb (bitsFrom (kind .used) (headAt kind s o i / 65536)) 0 ≡ reservedZero kind s o i
+  reserved-is i = ap (λ (x : ℕ). eqb (bitsFrom (kind .used) x) 0) (head-reserved kind s o bytes i)
 
-  placed-is : (i : ℕ) → placedIn kind level (headAt kind s o i % 256) ≡ wellPlaced kind level s (entryPlace kind o i)
-  placed-is i = ap (placedIn kind level) (head-type kind s o bytes i)
+  stand-is : (i : ℕ) → mayStand kind level (headAt kind s o i % 256) ≡ mayStand kind level (classAt kind s o i)
+  stand-is i = ap (mayStand kind level) (head-type kind s o bytes i)
 
   -- an entry that is not at fault is passed by
   on : (i : ℕ) → faultyAt kind level s o i ≡ false → mayRepeat kind s o i ≡ true → (rest : Reply Directory) → entryStep kind level s o i rest ≡ rest
   on i f m rest =
       let g = both-pass _ _ f in
-      passed _ _ _ _ (sym (reserved-is i) ∙ g .0) ∙ passed _ _ _ _ (sym (placed-is i) ∙ g .1) ∙ passed _ _ _ _ m
+      passed _ _ _ _ (sym (reserved-is i) ∙ g .0) ∙ passed _ _ _ _ (sym (stand-is i) ∙ g .1) ∙ passed _ _ _ _ m
 
   repeated : (i : ℕ) → faultyAt kind level s o i ≡ false → mayRepeat kind s o i ≡ false → (rest : Reply Directory) → entryStep kind level s o i rest ≡ refused 18 alone
   repeated i f m rest =
       let g = both-pass _ _ f in
-      passed _ _ _ _ (sym (reserved-is i) ∙ g .0) ∙ passed _ _ _ _ (sym (placed-is i) ∙ g .1) ∙ failed _ _ _ _ m
+      passed _ _ _ _ (sym (reserved-is i) ∙ g .0) ∙ passed _ _ _ _ (sym (stand-is i) ∙ g .1) ∙ failed _ _ _ _ m
 
   -- the answer of the entries from k on, where those before it are not at fault
   reach : (k : ℕ) → k ≤ n → ((j : ℕ) → j < k → faultyAt kind level s o j ≡ false) → ((j : ℕ) → j < k → mayRepeat kind s o j ≡ true) →
@@ -95,13 +117,13 @@ module _ (kind : Kind) (level : ℕ) (s : List ℕ) (o n : ℕ) (bytes : Bytes s
       ((j : ℕ) → j < end → mayRepeat kind s o j ≡ true) → endedAt kind level s o n end ≡ entriesAt kind level s o n
   ends end h f g m = by (ltb end n) refl
     where
-      at-end : (b : Bool) → reservedZero kind s (entryPlace kind o end) ≡ b → end < n → refused (cond b 14 5) alone ≡ entriesAt kind level s o n
+      at-end : (b : Bool) → reservedZero kind s o end ≡ b → end < n → refused (cond b 14 5) alone ≡ entriesAt kind level s o n
       at-end true q l =
-          stop end 14 l f m (λ rest. passed _ _ _ _ q ∙ failed _ _ _ _ (sym (placed-is end) ∙ one-fails _ _ (g l) (reserved-is end ∙ q)))
+          stop end 14 l f m (λ rest. passed _ _ _ _ q ∙ failed _ _ _ _ (sym (stand-is end) ∙ one-fails _ _ (g l) (reserved-is end ∙ q)))
       at-end false q l = stop end 5 l f m (λ rest. failed _ _ _ _ q)
 
-      by : (b : Bool) → ltb end n ≡ b → cond b (refused (cond (reservedZero kind s (entryPlace kind o end)) 14 5) alone) (given (directoryOf o level n)) ≡ entriesAt kind level s o n
-      by true q = at-end (reservedZero kind s (entryPlace kind o end)) refl (ltb-true _ _ q)
+      by : (b : Bool) → ltb end n ≡ b → cond b (refused (cond (reservedZero kind s o end) 14 5) alone) (given (directoryOf o level n)) ≡ entriesAt kind level s o n
+      by true q = at-end (reservedZero kind s o end) refl (ltb-true _ _ q)
       by false q =
           sym (scan-end (entryStep kind level s o) (λ _. given (directoryOf o level n)) n end (ltb-false end n q)) ∙ reach end h f m
 

@@ -4,35 +4,35 @@ use Prim.Native.Nat.{ℕ}
 use Rattle.reply.specs.Reply.{Reply, given, refused, alone}
 use Rattle.reply.proofs.ReplyLaws.{one-by}
 use Rattle.directory.specs.Directory.{toldDirectory}
-use Rattle.directory.specs.Repeat.{toldRepeated}
+use Rattle.directory.specs.Repeat.{toldRepeat}
 use Rattle.directory.specs.Good.{ToldApart}
 use Rattle.directory.specs.declared.Repeat.{Repeat}
-use Rattle.directory.specs.declared.Repeated.{Repeated}
-use Rattle.directory.specs.declared.Repeated.the-variants as repeated
+use Rattle.directory.specs.declared.RepeatAnswer.{RepeatAnswer}
+use Rattle.directory.specs.declared.RepeatAnswer.the-variants as repeatAnswer
 use Rattle.directory.specs.declared.Directory.{Directory}
-use Rattle.directory.specs.declared.Checked.{Checked}
-use Rattle.directory.specs.declared.Checked.the-variants as checked
+use Rattle.directory.specs.declared.DirectoryAnswer.{DirectoryAnswer}
+use Rattle.directory.specs.declared.DirectoryAnswer.the-variants as directoryAnswer
 
-directoryBack : Reply Directory → Checked
-directoryBack (given d) = checked.Given d
-directoryBack (refused number carried) = checked.Refused (record { number = number })
+directoryBack : Reply Directory → DirectoryAnswer
+directoryBack (given d) = directoryAnswer.Given d
+directoryBack (refused number carried) = directoryAnswer.Refused (record { number = number })
 
-directory-back : (x : Checked) → directoryBack (toldDirectory x) ≡ x
+directory-back : (x : DirectoryAnswer) → directoryBack (toldDirectory x) ≡ x
 unfolding directoryBack
-directory-back (checked.Given d) = refl
-directory-back (checked.Refused why) = refl
+directory-back (directoryAnswer.Given d) = refl
+directory-back (directoryAnswer.Refused why) = refl
 
-repeatedBack : Reply Repeat → Repeated
-repeatedBack (given r) = repeated.Given r
-repeatedBack (refused number carried) = repeated.Refused (record { number = number })
+repeatedBack : Reply Repeat → RepeatAnswer
+repeatedBack (given r) = repeatAnswer.Given r
+repeatedBack (refused number carried) = repeatAnswer.Refused (record { number = number })
 
-repeated-back : (x : Repeated) → repeatedBack (toldRepeated x) ≡ x
+repeated-back : (x : RepeatAnswer) → repeatedBack (toldRepeat x) ≡ x
 unfolding repeatedBack
-repeated-back (repeated.Given r) = refl
-repeated-back (repeated.Refused why) = refl
+repeated-back (repeatAnswer.Given r) = refl
+repeated-back (repeatAnswer.Refused why) = refl
 
 pub told-apart : ToldApart
 told-apart = record {
   directory = one-by toldDirectory directoryBack directory-back;
-  repeated = one-by toldRepeated repeatedBack repeated-back;
+  repeated = one-by toldRepeat repeatedBack repeated-back;
 }

@@ -1,15 +1,18 @@
 -- What a good directory is, and two entries that repeat, as plain facts; and that exactly these are given. Assumes nothing: these are statements.
-use Prim.Native.Nat.{ℕ, _+_, _-_, _<_, _≤_}
+use Prim.Native.Nat.{ℕ, _<_, _≤_}
 use mathlib.Core.Path.{_≡_}
 use mathlib.Core.Logic.{_⊎_}
 use mathlib.Core.List.{List}
 use mathlib.Core.Bool.{false}
-use lib.ListN.{length, getD}
-use Rattle.le.specs.Le.{leAt, Bytes}
+use lib.ListN.{length}
+use Rattle.le.specs.Le.{bitsFrom}
+use Rattle.le.specs.Field.{get}
 use Rattle.reply.specs.Reply.{Carried, given, refused, alone, tested, OneToOne}
 use Rattle.reply.specs.Scan.{Lowest, None}
-use Rattle.directory.specs.Directory.{cookieOf, totalAt, entryPlace, checksumAt, directoryAt, directoryByCookie, toldDirectory}
-use Rattle.directory.specs.Repeat.{repeatedAt, toldRepeated}
+use Rattle.directory.specs.Directory.{cookieOf, totalAt, entryPlace, checksumAt, classAt, subprogramAt, directoryAt, directoryByCookie, toldDirectory}
+use Rattle.directory.specs.Header as header
+use Rattle.directory.specs.Entry as entry
+use Rattle.directory.specs.Repeat.{repeatedAt, toldRepeat}
 use Rattle.directory.specs.declared.Kind.{Kind}
 use Rattle.directory.specs.declared.Directory.{Directory}
 use Rattle.directory.specs.declared.Repeat.{Repeat}
@@ -17,30 +20,30 @@ use Rattle.directory.specs.declared.Repeat.{Repeat}
 -- no two answers of a call tell the same
 pub record ToldApart : Type 0 where
   pub directory : OneToOne toldDirectory
-  pub repeated : OneToOne toldRepeated
+  pub repeated : OneToOne toldRepeat
 
--- the entry at e: reserved bits zero, and no lead but in level one
-pub record GoodEntry (kind : Kind) (level : ℕ) (image : List ℕ) (e : ℕ) : Type 0 where
-  pub reserved : leAt 2 image (e + 2) < kind .clear
-  pub placed : (level ≡ 1 → ⊥) → getD image e 0 ≡ kind .lead → ⊥
+-- entry i: reserved bits zero, and no lead but in level one
+pub record GoodEntry (kind : Kind) (level : ℕ) (image : List ℕ) (o i : ℕ) : Type 0 where
+  pub reserved : bitsFrom (kind .used) (get entry.flags image (entryPlace kind o i)) ≡ 0
+  pub may-stand : (level ≡ 1 → ⊥) → classAt kind image o i ≡ kind .lead → ⊥
 
 -- entries j and i have one type and subprogram
-abbrev pub Alike : Kind → List ℕ → ℕ → ℕ → ℕ → Type 0
-Alike kind image o i j = (getD image (entryPlace kind o j) 0 ≡ getD image (entryPlace kind o i) 0) × (getD image (entryPlace kind o j + 1) 0 ≡ getD image (entryPlace kind o i + 1) 0)
+abbrev pub Alike : Kind → (image : List ℕ) → (o i j : ℕ) → Type 0
+Alike kind image o i j = (classAt kind image o j ≡ classAt kind image o i) × (subprogramAt kind image o j ≡ subprogramAt kind image o i)
 
 -- entry i repeats no earlier one, in a directory of a kind that may not repeat
-abbrev pub First : Kind → List ℕ → ℕ → ℕ → Type 0
+abbrev pub First : Kind → (image : List ℕ) → (o i : ℕ) → Type 0
 First kind image o i = kind .repeats ≡ false → (j : ℕ) → j < i → Alike kind image o i j → ⊥
 
 -- the directory d
 pub record GoodDirectory (kind : Kind) (limit : ℕ) (image : List ℕ) (d : Directory) : Type 0 where
-  pub cookie : leAt 4 image (d .place .0) ≡ cookieOf kind (d .level)
+  pub cookie : get header.cookie image (d .place .0) ≡ cookieOf kind (d .level)
   pub total : totalAt image (d .place .0) ≡ d .total
   pub few : d .total ≤ limit
   pub present : entryPlace kind (d .place .0) (d .total) ≤ length image
-  pub checksum : leAt 4 image (d .place .0 + 4) ≡ checksumAt kind image (d .place .0) (d .total)
-  pub reserved : leAt 4 image (d .place .0 + 12) ≡ 0
-  pub entries : (i : ℕ) → i < d .total → GoodEntry kind (d .level) image (entryPlace kind (d .place .0) i)
+  pub checksum : get header.checksum image (d .place .0) ≡ checksumAt kind image (d .place .0) (d .total)
+  pub reserved : get header.reserved image (d .place .0) ≡ 0
+  pub entries : (i : ℕ) → i < d .total → GoodEntry kind (d .level) image (d .place .0) i
   pub first : (i : ℕ) → i < d .total → First kind image (d .place .0) i
 
 -- a directory of the level asked for is given exactly where it is good

@@ -1,3 +1,5 @@
+pub mod Header
+pub mod Entry
 pub mod Directory
 pub mod Looks
 pub mod Repeat

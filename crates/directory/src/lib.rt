@@ -4,29 +4,44 @@ ghost use Prim.Native.Nat.{_<_, _≤_, _^_, _+_, _*_, _/_, _%_};
 ghost use lib.ListN.{length, getD};
 ghost use lib.Dec.{eqb, ltb};
 ghost use mathlib.Core.Bool.{false, _||_};
-ghost use Rattle.le.specs.Le.{leAt};
+ghost use Rattle.le.specs.Le.{bitsFrom};
+ghost use Rattle.le.specs.Field.{get};
 ghost use Rattle.reply.specs.Reply.{guard};
 ghost use Rattle.reply.specs.Some.{someBelow, firstBelow};
-ghost use Rattle.directory.specs.Directory.{pspKind, cookieOf, entryPlace, checksumAt, placedIn, sameEntry, repeatsEarlier, entriesAt, directoryAt, directoryByCookie, toldDirectory};
-ghost use Rattle.directory.specs.Repeat.{earlierOf, repeatIn, repeatedAt, toldRepeated};
-ghost use Rattle.directory.specs.Looks.{headAt, faultyHead, faultyAt, badAt, endedAt};
+ghost use Rattle.directory.specs.Header as header;
+ghost use Rattle.directory.specs.Directory.{pspKind, cookieOf, entryPlace, checksumAt, mayStand, sameEntry, repeatsEarlier, entriesAt, directoryAt, directoryByCookie, toldDirectory};
+ghost use Rattle.directory.specs.Repeat.{earlierOf, repeatIn, repeatedAt, toldRepeat};
+ghost use Rattle.directory.specs.Looks.{headAt, flagsUsed, clearBelow, faultyHead, faultyAt, badAt, endedAt};
 use reply::Refusal;
 use window::Offset;
 
 // What kinds of directory differ in: the cookies of the two levels, an entry's bytes, the type that leads to level two,
-// the type that holds a value, what the 16 bits at 2 of an entry must be below, and whether an entry may repeat an earlier type and subprogram.
+// the type that holds a value, how many of an entry's flags are used, from the lowest up, and whether an entry may repeat an earlier type and subprogram.
 pub struct Kind {
     pub one: u32,
     pub two: u32,
     pub entry: u8,
     pub lead: u8,
     pub value: u16,
-    pub clear: u16,
+    pub used: u8,
     pub repeats: bool,
 }
 
+impl Kind {
+    // Where the fields of an entry begin, in every kind.
+    pub const CLASS: usize = 0;
+
+    pub const SUBPROGRAM: usize = 1;
+
+    pub const FLAGS: usize = 2;
+
+    pub const SIZE: usize = 4;
+
+    pub const LOCATION: usize = 8;
+}
+
 // PSP directories.
-pub fn psp() -> Kind
+pub fn psp_kind() -> Kind
     ensures { λ r. ⌜ r ≡ pspKind ⌝ }
 {
     Kind {
@@ -35,7 +50,7 @@ pub fn psp() -> Kind
         entry: 16,
         lead: 0x40,
         value: 0x0B,
-        clear: 1,
+        used: 0,
         repeats: false,
     }
 }
@@ -47,14 +62,27 @@ pub struct Directory {
     pub total: u32,
 }
 
+impl Directory {
+    // Where the fields of its header begin, and the header's bytes.
+    pub const COOKIE: usize = 0;
+
+    pub const CHECKSUM: usize = 4;
+
+    pub const TOTAL: usize = 8;
+
+    pub const RESERVED: usize = 12;
+
+    pub const HEADER: usize = 16;
+}
+
 // What the checks of a directory answer.
-pub enum Checked {
+pub enum DirectoryAnswer {
     Given(Directory),
     Refused(Refusal),
 }
 
 // The cookie of a level.
-pub fn cookie(kind: Kind, level: u32) -> u32
+pub fn cookie_of(kind: Kind, level: u32) -> u32
     ensures { λ r. ⌜ r ≡ cookieOf kind level ⌝ }
 {
     if level == 1 { kind.one } else { kind.two }
@@ -65,11 +93,11 @@ pub fn entry_place(kind: Kind, at: Offset, i: u32) -> usize
     ensures { λ r. ⌜ r ≡ entryPlace kind (at .0) i ⌝ }
     ensures { λ r. ⌜ r < 2 ^ 48 ⌝ }
 {
-    (at.0 as usize) + 16 + (i as usize) * (kind.entry as usize)
+    (at.0 as usize) + Directory::HEADER + (i as usize) * (kind.entry as usize)
 }
 
 // The first four bytes of entry i, which lies in the image, as a number: its type, its subprogram, and its 16 bits at 2.
-fn head_of(image: &[u8], kind: Kind, at: Offset, i: u32) -> u32
+fn head_at(image: &[u8], kind: Kind, at: Offset, i: u32) -> u32
     requires { ⌜ at .0 + 16 + i * kind .entry + kind .entry ≤ length (now image) ⌝ }
     ensures { λ r. ⌜ r ≡ headAt kind (now (image .entry)) (at .0) i ⌝ }
 {
@@ -81,16 +109,30 @@ fn head_of(image: &[u8], kind: Kind, at: Offset, i: u32) -> u32
     le::u32_at(&image[e..e + 4], 0)
 }
 
+// How many of an entry's sixteen flags are used.
+fn flags_used(used: u8) -> u8
+    ensures { λ r. ⌜ r ≡ flagsUsed used ⌝ }
+{
+    if used < 16 { used } else { 16 }
+}
+
+// What the first four bytes of an entry, as a number, are below where its reserved bits are zero. A loop that asks it has one number to compare with.
+fn clear_below(used: u8) -> u64
+    ensures { λ r. ⌜ r ≡ clearBelow used ⌝ }
+{
+    65536u64 << flags_used(used)
+}
+
 // Are the reserved bits of an entry that begins like this zero?
 fn reserved_zero(kind: Kind, head: u32) -> bool
-    ensures { λ r. ⌜ r ≡ ltb (head / 65536) (kind .clear) ⌝ }
+    ensures { λ r. ⌜ r ≡ eqb (bitsFrom (kind .used) (head / 65536)) 0 ⌝ }
 {
-    head < 65536 * (kind.clear as u32)
+    (head as u64) < clear_below(kind.used)
 }
 
 // May an entry of this type stand in a directory of this level?
 pub fn may_stand(kind: Kind, level: u32, class: u8) -> bool
-    ensures { λ r. ⌜ r ≡ placedIn kind level class ⌝ }
+    ensures { λ r. ⌜ r ≡ mayStand kind level class ⌝ }
 {
     if level == 1 {
         return true;
@@ -99,7 +141,7 @@ pub fn may_stand(kind: Kind, level: u32, class: u8) -> bool
 }
 
 // Is an entry that begins like this at fault by itself: reserved bits that are not zero, or a lead that is misplaced?
-fn faulty(kind: Kind, level: u32, head: u32) -> bool
+fn faulty_head(kind: Kind, level: u32, head: u32) -> bool
     ensures { λ r. ⌜ r ≡ faultyHead kind level head ⌝ }
 {
     if reserved_zero(kind, head) {
@@ -116,7 +158,7 @@ fn first_fault(image: &[u8], kind: Kind, level: u32, at: Offset, n: u32) -> u32
 {
     let mut i: u32 = 0;
     while i < n {
-        if faulty(kind, level, head_of(image, kind, at, i)) {
+        if faulty_head(kind, level, head_at(image, kind, at, i)) {
             return i;
         }
         i += 1;
@@ -140,12 +182,12 @@ fn bad_by_marks(image: &[u8], kind: Kind, level: u32, at: Offset, n: u32) -> boo
     let mut bad = false;
     let mut i: u32 = 0;
     while i < n {
-        let head = head_of(image, kind, at, i);
+        let head = head_at(image, kind, at, i);
         let pair = (head % 65536) as u16;
         let w = marks::cell(pair);
         let word = seen[w];
         bad = either(
-            either(faulty(kind, level, head), marks::marked(word, pair)),
+            either(faulty_head(kind, level, head), marks::marked(word, pair)),
             bad,
         );
         seen[w] = marks::with_mark(word, pair);
@@ -163,12 +205,12 @@ fn bad_by_few_marks(image: &[u8], kind: Kind, level: u32, at: Offset, n: u32) ->
     let mut bad = false;
     let mut i: u32 = 0;
     while i < n {
-        let head = head_of(image, kind, at, i);
+        let head = head_at(image, kind, at, i);
         let pair = (head % 65536) as u16;
         let w = marks::cell(pair) % 64;
         let word = seen[w];
         let again = either(4096 <= pair, marks::marked(word, pair));
-        bad = either(either(faulty(kind, level, head), again), bad);
+        bad = either(either(faulty_head(kind, level, head), again), bad);
         seen[w] = marks::with_mark(word, pair);
         i += 1;
     }
@@ -189,17 +231,17 @@ fn some_bad(image: &[u8], kind: Kind, level: u32, at: Offset, n: u32) -> bool
 }
 
 // The answer of n entries of which the first at fault by itself is `end`, or end is n, and of which none before it repeats where it may not.
-fn ended(image: &[u8], kind: Kind, level: u32, at: Offset, n: u32, end: u32) -> Checked
+fn ended_at(image: &[u8], kind: Kind, level: u32, at: Offset, n: u32, end: u32) -> DirectoryAnswer
     requires { ⌜ at .0 + 16 + n * kind .entry ≤ length (now image) ⌝ }
     ensures { λ r. ⌜ toldDirectory r ≡ endedAt kind level (now (image .entry)) (at .0) n end ⌝ }
 {
     if end < n {
-        if reserved_zero(kind, head_of(image, kind, at, end)) {
-            return Checked::Refused(Refusal::MISPLACED);
+        if reserved_zero(kind, head_at(image, kind, at, end)) {
+            return DirectoryAnswer::Refused(Refusal::MISPLACED);
         }
-        return Checked::Refused(Refusal::FIELD);
+        return DirectoryAnswer::Refused(Refusal::FIELD);
     }
-    Checked::Given(Directory {
+    DirectoryAnswer::Given(Directory {
         place: at,
         level: level,
         total: n,
@@ -207,79 +249,79 @@ fn ended(image: &[u8], kind: Kind, level: u32, at: Offset, n: u32, end: u32) -> 
 }
 
 // The first refusal among the n entries, or the directory. Most directories are good, and one pass tells; else the order is found out.
-fn entries(image: &[u8], kind: Kind, level: u32, at: Offset, n: u32) -> Checked
+fn entries_at(image: &[u8], kind: Kind, level: u32, at: Offset, n: u32) -> DirectoryAnswer
     requires { ⌜ at .0 + 16 + n * kind .entry ≤ length (now image) ⌝ }
     ensures { λ r. ⌜ toldDirectory r ≡ entriesAt kind level (now (image .entry)) (at .0) n ⌝ }
 {
     if kind.repeats {
         let end = first_fault(image, kind, level, at, n);
-        return ended(image, kind, level, at, n, end);
+        return ended_at(image, kind, level, at, n, end);
     }
     if some_bad(image, kind, level, at, n) {
         let end = first_fault(image, kind, level, at, n);
         if some_bad(image, kind, level, at, end) {
-            return Checked::Refused(Refusal::REPEATED);
+            return DirectoryAnswer::Refused(Refusal::REPEATED);
         }
-        return ended(image, kind, level, at, n, end);
+        return ended_at(image, kind, level, at, n, end);
     }
-    ended(image, kind, level, at, n, n)
+    ended_at(image, kind, level, at, n, n)
 }
 
 // The checks of a directory whose n entries lie in the image: checksum, header reserved, entries.
-fn sealed(image: &[u8], kind: Kind, level: u32, at: Offset, n: u32) -> Checked
+fn sealed(image: &[u8], kind: Kind, level: u32, at: Offset, n: u32) -> DirectoryAnswer
     requires { ⌜ at .0 + 16 + n * kind .entry ≤ length (now image) ⌝ }
-    ensures { λ r. ⌜ toldDirectory r ≡ guard (eqb (leAt 4 (now (image .entry)) (at .0 + 4)) (checksumAt kind (now (image .entry)) (at .0) n)) 4 (guard (eqb (leAt 4 (now (image .entry)) (at .0 + 12)) 0) 5 (entriesAt kind level (now (image .entry)) (at .0) n)) ⌝ }
+    ensures { λ r. ⌜ toldDirectory r ≡ guard (eqb (get header.checksum (now (image .entry)) (at .0)) (checksumAt kind (now (image .entry)) (at .0) n)) 4 (guard (eqb (get header.reserved (now (image .entry)) (at .0)) 0) 5 (entriesAt kind level (now (image .entry)) (at .0) n)) ⌝ }
 {
     let o = at.0 as usize;
     let size = (n as usize) * (kind.entry as usize);
-    let sum = fletcher::fletcher(&image[o + 8..o + 16 + size]);
-    if le::u32_at(image, o + 4) != sum {
-        return Checked::Refused(Refusal::CHECKSUM);
+    let sum = fletcher::fletcher(&image[o + Directory::TOTAL..o + Directory::HEADER + size]);
+    if le::u32_at(image, o + Directory::CHECKSUM) != sum {
+        return DirectoryAnswer::Refused(Refusal::CHECKSUM);
     }
-    if le::u32_at(image, o + 12) != 0 {
-        return Checked::Refused(Refusal::FIELD);
+    if le::u32_at(image, o + Directory::RESERVED) != 0 {
+        return DirectoryAnswer::Refused(Refusal::FIELD);
     }
-    entries(image, kind, level, at, n)
+    entries_at(image, kind, level, at, n)
 }
 
 // All checks of a directory of a level, of at most so many entries.
-pub fn directory_at(image: &[u8], kind: Kind, limit: u32, level: u32, at: Offset) -> Checked
+pub fn directory_at(image: &[u8], kind: Kind, limit: u32, level: u32, at: Offset) -> DirectoryAnswer
     ensures { λ r. ⌜ toldDirectory r ≡ directoryAt kind limit level (now (image .entry)) (at .0) ⌝ }
 {
     let o = at.0 as usize;
-    if image.len() < o + 16 {
-        return Checked::Refused(Refusal::SHORT);
+    if image.len() < o + Directory::HEADER {
+        return DirectoryAnswer::Refused(Refusal::SHORT);
     }
-    if le::u32_at(image, o) != cookie(kind, level) {
-        return Checked::Refused(Refusal::SIGNATURE);
+    if le::u32_at(image, o + Directory::COOKIE) != cookie_of(kind, level) {
+        return DirectoryAnswer::Refused(Refusal::SIGNATURE);
     }
-    let n = le::u32_at(image, o + 8);
+    let n = le::u32_at(image, o + Directory::TOTAL);
     if limit < n {
-        return Checked::Refused(Refusal::LIMITS);
+        return DirectoryAnswer::Refused(Refusal::LIMITS);
     }
     let size = (n as usize) * (kind.entry as usize);
-    if image.len() < o + 16 + size {
-        return Checked::Refused(Refusal::SHORT);
+    if image.len() < o + Directory::HEADER + size {
+        return DirectoryAnswer::Refused(Refusal::SHORT);
     }
     sealed(image, kind, level, at, n)
 }
 
 // All checks of a directory of the level that its cookie names.
-pub fn directory_by_cookie(image: &[u8], kind: Kind, limit: u32, at: Offset) -> Checked
+pub fn directory_by_cookie(image: &[u8], kind: Kind, limit: u32, at: Offset) -> DirectoryAnswer
     ensures { λ r. ⌜ toldDirectory r ≡ directoryByCookie kind limit (now (image .entry)) (at .0) ⌝ }
 {
     let o = at.0 as usize;
-    if image.len() < o + 16 {
-        return Checked::Refused(Refusal::SHORT);
+    if image.len() < o + Directory::HEADER {
+        return DirectoryAnswer::Refused(Refusal::SHORT);
     }
-    let found = le::u32_at(image, o);
+    let found = le::u32_at(image, o + Directory::COOKIE);
     if found == kind.one {
         return directory_at(image, kind, limit, 1, at);
     }
     if found == kind.two {
         return directory_at(image, kind, limit, 2, at);
     }
-    Checked::Refused(Refusal::SIGNATURE)
+    DirectoryAnswer::Refused(Refusal::SIGNATURE)
 }
 
 // Two entries of one type and subprogram: the one that repeats, the earlier one, and what both have.
@@ -291,7 +333,7 @@ pub struct Repeat {
 }
 
 // Which entries repeat: the first such two, or why there are none.
-pub enum Repeated {
+pub enum RepeatAnswer {
     Given(Repeat),
     Refused(Refusal),
 }
@@ -302,8 +344,8 @@ fn same_entry(image: &[u8], kind: Kind, at: Offset, i: u32, j: u32) -> bool
 {
     let a = entry_place(kind, at, i);
     let b = entry_place(kind, at, j);
-    if le::byte_at(image, b) == le::byte_at(image, a) {
-        le::byte_at(image, b + 1) == le::byte_at(image, a + 1)
+    if le::u8_at(image, b + Kind::CLASS) == le::u8_at(image, a + Kind::CLASS) {
+        le::u8_at(image, b + Kind::SUBPROGRAM) == le::u8_at(image, a + Kind::SUBPROGRAM)
     } else {
         false
     }
@@ -346,27 +388,27 @@ fn repeat_in(image: &[u8], kind: Kind, at: Offset, n: u32) -> Repeat
     Repeat {
         entry: i,
         earlier: earlier_of(image, kind, at, i),
-        class: le::byte_at(image, e),
-        subprogram: le::byte_at(image, e + 1),
+        class: le::u8_at(image, e + Kind::CLASS),
+        subprogram: le::u8_at(image, e + Kind::SUBPROGRAM),
     }
 }
 
 // Of a directory of a level that is refused since an entry repeats: which two entries. Every other refusal stays, and a good directory has none (8).
-pub fn repeated_at(image: &[u8], kind: Kind, limit: u32, level: u32, at: Offset) -> Repeated
-    ensures { λ r. ⌜ toldRepeated r ≡ repeatedAt kind limit level (now (image .entry)) (at .0) ⌝ }
+pub fn repeated_at(image: &[u8], kind: Kind, limit: u32, level: u32, at: Offset) -> RepeatAnswer
+    ensures { λ r. ⌜ toldRepeat r ≡ repeatedAt kind limit level (now (image .entry)) (at .0) ⌝ }
 {
     match directory_at(image, kind, limit, level, at) {
-        Checked::Given(_) => Repeated::Refused(Refusal::ABSENT),
-        Checked::Refused(why) => {
+        DirectoryAnswer::Given(_) => RepeatAnswer::Refused(Refusal::ABSENT),
+        DirectoryAnswer::Refused(why) => {
             if why.number == 18 {
-                return Repeated::Given(repeat_in(
+                return RepeatAnswer::Given(repeat_in(
                     image,
                     kind,
                     at,
-                    le::u32_at(image, (at.0 as usize) + 8),
+                    le::u32_at(image, (at.0 as usize) + Directory::TOTAL),
                 ));
             }
-            Repeated::Refused(why)
+            RepeatAnswer::Refused(why)
         }
     }
 }

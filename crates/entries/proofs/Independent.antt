@@ -16,10 +16,10 @@ use Rattle.reply.specs.Reply.{Reply, given, refused, alone, check, then}
 use Rattle.reply.proofs.ReplyLaws.{check-same, then-same}
 use Rattle.reply.proofs.ScanLaws.{scan-same}
 use Rattle.directory.specs.Directory.{totalAt, entryPlace, sameEntry, mayRepeat, entryStep, directoryOf, entriesAt, directoryAt, directoryByCookie}
-use Rattle.entries.specs.Entry.{fieldsAt, entryOf, entryIn, leadStep, leadIn, findStep, findIn, matchOf, foundAt, nowhere}
-use Rattle.entries.specs.Part.{within, leadsTo, rangedAt, partOf, partIn}
+use Rattle.entries.specs.Entry.{fieldsAt, entryOf, entryIn, leadStep, leadIn, findStep, findIn, matches, foundAt, nowhere}
+use Rattle.entries.specs.Part.{placeIn, leadsTo, partWithin, partOf, partIn}
 use Rattle.directory.specs.Independent.{Agree, endOf}
-use Rattle.entries.specs.Independent.{EntriesIndependence}
+use Rattle.entries.specs.Independent.{SameEntries, EntriesIndependence}
 use Rattle.reply.proofs.SomeLaws.{some-same}
 use Rattle.directory.specs.declared.Kind.{Kind}
 use Rattle.directory.specs.declared.Directory.{Directory}
@@ -34,8 +34,7 @@ module _ (kind : Kind) (s t : List ℕ) (o n : ℕ) (wide : 16 ≤ kind .entry) 
 
 -- of what a location leads to only the image's length matters
 module _ (window : ℕ) (s t : List ℕ) (long : length s ≡ length t) where
-  within-same : (x : ℕ) → within s x ≡ within t x
-  unfolding within
+  within-same : (x : ℕ) → placeIn s x ≡ placeIn t x
   within-same x = rw long
 
   pub leads-same : (o : ℕ) (e : Entry) → leadsTo window s o e ≡ leadsTo window t o e
@@ -43,9 +42,9 @@ module _ (window : ℕ) (s t : List ℕ) (long : length s ≡ length t) where
   leads-same o e = simp within-same
 
 part-of-same : (kind : Kind) (window : ℕ) (s t : List ℕ) → length s ≡ length t → (o : ℕ) (e : Entry) → partOf kind window s o e ≡ partOf kind window t o e
-unfolding partOf rangedAt
+unfolding partOf partWithin
 part-of-same kind window s t long o e =
-    rw (leads-same window s t long o e) (ap (λ (r : Reply Part). check (not (eqb (e .class) (kind .value))) 17 alone r) (then-same (leadsTo window t o e) (rangedAt s (e .size)) (rangedAt t (e .size)) (λ p q. rw long)))
+    rw (leads-same window s t long o e) (ap (λ (r : Reply Part). check (not (eqb (e .class) (kind .value))) 17 alone r) (then-same (leadsTo window t o e) (partWithin s (e .size)) (partWithin t (e .size)) (λ p q. rw long)))
 
 module _ (kind : Kind) (s t : List ℕ) (d : Directory) (wide : 16 ≤ kind .entry) (agree : Agree s t (d .place .0) (endOf kind d)) where
   entry-of-same : (i : ℕ) → i < d .total → entryOf kind s d i ≡ entryOf kind t d i
@@ -57,8 +56,8 @@ module _ (kind : Kind) (s t : List ℕ) (d : Directory) (wide : 16 ≤ kind .ent
   pub lead-same : leadIn kind s d ≡ leadIn kind t d
   lead-same = scan-same (leadStep kind s d) (leadStep kind t d) (λ _. refused 8 alone) (d .total) 0 (λ j a b rest. ap (λ (e : Entry). cond (eqb (e .class) (kind .lead)) (given e) rest) (entry-of-same j (omega arith)))
 
-  pub lookup-same : (type sub : ℕ) → findIn kind s d type sub ≡ findIn kind t d type sub
-  lookup-same type sub = scan-same (findStep kind s d type sub) (findStep kind t d type sub) nowhere (d .total) 0 (λ j a b rest. ap (λ (e : Entry). cond (matchOf e type sub) (foundAt j) rest) (entry-of-same j (omega arith)))
+  pub lookup-same : (class sub : ℕ) → findIn kind s d class sub ≡ findIn kind t d class sub
+  lookup-same class sub = scan-same (findStep kind s d class sub) (findStep kind t d class sub) nowhere (d .total) 0 (λ j a b rest. ap (λ (e : Entry). cond (matches e class sub) (foundAt j) rest) (entry-of-same j (omega arith)))
 
   pub part-in-same : (window i : ℕ) → partIn kind window s d i ≡ partIn kind window t d i
   part-in-same window i =
@@ -66,9 +65,9 @@ module _ (kind : Kind) (s t : List ℕ) (d : Directory) (wide : 16 ≤ kind .ent
       ∙ ap (λ (r : Reply Entry). then r (partOf kind window t (d .place .0))) (entry-same i)
 
 pub entries-independence : EntriesIndependence
-entries-independence = record {
-  entry = λ kind s t d i w a. entry-same kind s t d w a i;
-  lead = lead-same;
-  lookup = λ kind s t d type sub w a. lookup-same kind s t d w a type sub;
-  part = λ kind window s t d i w a. part-in-same kind s t d w a window i;
+entries-independence kind s t d wide agree = record {
+  entry = entry-same kind s t d wide agree;
+  lead = lead-same kind s t d wide agree;
+  lookup = lookup-same kind s t d wide agree;
+  part = part-in-same kind s t d wide agree;
 }

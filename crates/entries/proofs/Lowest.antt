@@ -11,7 +11,7 @@ use Rattle.reply.specs.Scan.{Lowest, None}
 use Rattle.reply.proofs.ReplyLaws.{clash}
 use Rattle.reply.proofs.SomeLaws.{some-true, some-false}
 use Rattle.reply.proofs.Lowest.{Searched, lowest, none, Decided, lowest-found, none-found, searched}
-use Rattle.entries.specs.Entry.{entryOf, leadIn, matchOf, holdsIn, findIn, foundAt, nowhere}
+use Rattle.entries.specs.Entry.{entryOf, leadIn, matches, holdsIn, findIn, foundAt, nowhere}
 use Rattle.entries.specs.Good.{Leads, Matches, LowestLead, LowestMatch}
 use Rattle.directory.specs.declared.Kind.{Kind}
 use Rattle.directory.specs.declared.Directory.{Directory}
@@ -19,10 +19,10 @@ use Rattle.entries.specs.declared.Entry.{Entry}
 use Rattle.entries.specs.declared.Match.{Match}
 
 -- the test of a match, as a fact and back
-pub match-says : (e : Entry) (type sub : ℕ) → (e .class ≡ type) × (e .subprogram ≡ sub) → matchOf e type sub ≡ true
+pub match-says : (e : Entry) (type sub : ℕ) → (e .class ≡ type) × (e .subprogram ≡ sub) → matches e type sub ≡ true
 match-says e type sub m = rw (eq-eqb _ _ (m .0), eq-eqb _ _ (m .1))
 
-pub match-holds : (e : Entry) (type sub : ℕ) → matchOf e type sub ≡ true → (e .class ≡ type) × (e .subprogram ≡ sub)
+pub match-holds : (e : Entry) (type sub : ℕ) → matches e type sub ≡ true → (e .class ≡ type) × (e .subprogram ≡ sub)
 match-holds e type sub h = let g = and-eq-true-iff (eqb (e .class) type) _ .0 h in (eqb-true _ _ (g .0), eqb-true _ _ (g .1))
 
 abbrev leads-test : (kind : Kind) (s : List ℕ) (d : Directory) → Decided (Leads kind s d)
@@ -30,7 +30,7 @@ leads-test kind s d = record { test = λ i. eqb (entryOf kind s d i .class) (kin
 
 abbrev match-test : (kind : Kind) (s : List ℕ) (d : Directory) (type sub : ℕ) → Decided (Matches kind s d type sub)
 match-test kind s d type sub = record {
-  test = λ i. matchOf (entryOf kind s d i) type sub;
+  test = λ i. matches (entryOf kind s d i) type sub;
   says = λ i. match-says (entryOf kind s d i) type sub;
   holds = λ i. match-holds (entryOf kind s d i) type sub;
 }
@@ -79,12 +79,12 @@ module _ (kind : Kind) (s : List ℕ) (d : Directory) where
     pub held : (m : Match) → findIn kind s d type sub ≡ given m → true ≡ holdsIn kind s d type sub
     held m q =
         let l = find-only m q .0 in
-        sym (some-true (λ j. matchOf (entryOf kind s d j) type sub) (d .total) (m .index) (l .inside) (match-says (entryOf kind s d (m .index)) type sub (l .here)))
+        sym (some-true (λ j. matches (entryOf kind s d j) type sub) (d .total) (m .index) (l .inside) (match-says (entryOf kind s d (m .index)) type sub (l .here)))
 
     pub not-held : (number : ℕ) (carried : Carried) → findIn kind s d type sub ≡ refused number carried → false ≡ holdsIn kind s d type sub
-    not-held number carried q = sym (some-false (λ j. matchOf (entryOf kind s d j) type sub) (d .total) (λ j l. by j (matchOf (entryOf kind s d j) type sub) refl (find-none number carried q .0 j l)))
+    not-held number carried q = sym (some-false (λ j. matches (entryOf kind s d j) type sub) (d .total) (λ j l. by j (matches (entryOf kind s d j) type sub) refl (find-none number carried q .0 j l)))
       where
-        by : (j : ℕ) (b : Bool) → matchOf (entryOf kind s d j) type sub ≡ b → (Matches kind s d type sub j → ⊥) → b ≡ false
+        by : (j : ℕ) (b : Bool) → matches (entryOf kind s d j) type sub ≡ b → (Matches kind s d type sub j → ⊥) → b ≡ false
         by j true e n = absurd (n (match-holds (entryOf kind s d j) type sub e))
         by j false e n = refl
 

@@ -12,11 +12,11 @@ use Rattle.le.specs.Le.{Bytes}
 use Rattle.le.proofs.Laws.{le-small}
 use Rattle.reply.specs.Reply.{Reply, given, then}
 use Rattle.reply.proofs.ReplyLaws.{past, passed, then-given, either}
-use Rattle.window.specs.Window.{offsetIn}
-use Rattle.window.proofs.Inside.{offset-fact, offset-given}
+use Rattle.window.specs.Window.{fourGiB, offsetIn}
+use Rattle.window.proofs.Inside.{offset-shown, shown-offset}
 use Rattle.entries.specs.Entry.{fieldsAt, entryOf, entryIn}
-use Rattle.entries.specs.Part.{within, leadsTo, rangedAt, partOf, partIn}
-use Rattle.entries.specs.Good.{BeginsAt, physical, flash, counted, GoodPart, PartAcceptance}
+use Rattle.entries.specs.Part.{placeIn, leadsTo, partWithin, partOf, partIn}
+use Rattle.entries.specs.Good.{BeginsAt, physical, flash, counted, GoodPart, PartAcceptance, PartsAccepted}
 use Rattle.entries.proofs.Accept.{only-entry, all-entry}
 use Rattle.entries.proofs.Parts.{within-fact}
 use Rattle.directory.specs.declared.Kind.{Kind}
@@ -25,11 +25,10 @@ use Rattle.entries.specs.declared.Entry.{Entry}
 use Rattle.entries.specs.declared.Part.{Part}
 
 -- an offset that lies within the image is given
-within-given : (s : List ℕ) (x p : ℕ) → x ≡ p → p ≤ length s → within s x ≡ given p
-unfolding within
+within-given : (s : List ℕ) (x p : ℕ) → x ≡ p → p ≤ length s → placeIn s x ≡ given p
 within-given s x p q h = passed _ _ _ _ (le-leb x (length s) (omega arith)) ∙ ap given q
 
-module _ (window : ℕ) (s : List ℕ) (o : ℕ) (e : Entry) (p : ℕ) where
+module _ (window : ℕ) (fits : window ≤ fourGiB) (s : List ℕ) (o : ℕ) (e : Entry) (p : ℕ) where
   pub lead-fact : e .mode ≤ 3 → leadsTo window s o e ≡ given p → BeginsAt window o e p × (p ≤ length s)
   unfolding leadsTo
   lead-fact m h =
@@ -37,10 +36,9 @@ module _ (window : ℕ) (s : List ℕ) (o : ℕ) (e : Entry) (p : ℕ) where
       let three : e .mode ≡ 3 → ⊥ = eqb-false (e .mode) 3 (not-true _ (g .0)) in
       either (eqb (e .mode) 0) _ _ (g .1)
       (λ b x.
-      let t = then-given (offsetIn window (e .location)) (λ a. within s (a .0)) x in
-      let f = offset-fact window (e .location) (t .0) (t .1) in
+      let t = then-given (offsetIn window (e .location)) (λ a. placeIn s (a .0)) x in
       let w = within-fact s (t .0 .0) p (t .2) in
-      (physical (eqb-true _ _ b) (omega (arith, f .0, f .2, w .0)) (f .1), w .1))
+      (physical (eqb-true _ _ b) (rw (← w .0) (offset-shown window fits (e .location) (t .0) (t .1))), w .1))
       (λ b y. let zero : e .mode ≡ 0 → ⊥ = eqb-false _ _ b in
       either (eqb (e .mode) 1) _ _ y
       (λ d x. let w = within-fact s (e .location) p x in (flash (eqb-true _ _ d) (w .0), w .1))
@@ -48,34 +46,33 @@ module _ (window : ℕ) (s : List ℕ) (o : ℕ) (e : Entry) (p : ℕ) where
 
   pub lead-given : BeginsAt window o e p → p ≤ length s → leadsTo window s o e ≡ given p
   unfolding leadsTo
-  lead-given (physical m l u) b =
-      simp (m, offset-given window (e .location) p (omega arith) u (omega arith)) (within-given s p p refl b)
+  lead-given (physical m shown) b = simp (m, shown-offset window fits (e .location) (record { 0 = p }) shown) (within-given s p p refl b)
   lead-given (flash m l) b = simp m (within-given s _ p l b)
   lead-given (counted m l) b = simp m (within-given s _ p l b)
 
-module _ (kind : Kind) (window : ℕ) (s : List ℕ) where
+module _ (kind : Kind) (window : ℕ) (fits : window ≤ fourGiB) (s : List ℕ) where
   part-fact : (o : ℕ) (e : Entry) (p : Part) → e .mode ≤ 3 → partOf kind window s o e ≡ given p → GoodPart kind window s o e p
-  unfolding partOf rangedAt
+  unfolding partOf partWithin
   part-fact o e p m h =
       let g = past (not (eqb (e .class) (kind .value))) _ _ _ h in
-      let t = then-given (leadsTo window s o e) (rangedAt s (e .size)) (g .1) in
+      let t = then-given (leadsTo window s o e) (partWithin s (e .size)) (g .1) in
       let r = past (leb (t .0 + e .size) (length s)) _ _ _ (t .2) in
       let b : t .0 + e .size ≤ length s = leb-true _ _ (r .0) in
       let x : t .0 ≡ p .place = cc (r .1) in
       let y : e .size ≡ p .length = cc (r .1) in
       record {
         no-value = eqb-false _ _ (not-true _ (g .0));
-        begins = rw (← x) (lead-fact window s o e (t .0) m (t .1) .0);
+        begins = rw (← x) (lead-fact window fits s o e (t .0) m (t .1) .0);
         size = y;
         inside = omega arith;
       }
 
   part-given : (o : ℕ) (e : Entry) (p : Part) → GoodPart kind window s o e p → partOf kind window s o e ≡ given p
-  unfolding partOf rangedAt
+  unfolding partOf partWithin
   part-given o e p g =
       let y = g .size in
       let b = g .inside in
-      simp (ne-eqb _ _ (g .no-value), lead-given window s o e (p .place) (g .begins) (omega arith), le-leb (p .place + e .size) (length s) (omega arith))
+      simp (ne-eqb _ _ (g .no-value), lead-given window fits s o e (p .place) (g .begins) (omega arith), le-leb (p .place + e .size) (length s) (omega arith))
       (ap (λ (l : ℕ). given (record { place = p .place; length = l })) y)
 
   only-part : (d : Directory) (i : ℕ) (p : Part) → entryOf kind s d i .mode ≤ 3 → partIn kind window s d i ≡ given p → (i < d .total) × GoodPart kind window s (d .place .0) (entryOf kind s d i) p
@@ -90,5 +87,8 @@ module _ (kind : Kind) (window : ℕ) (s : List ℕ) where
 two-bits : (s : List ℕ) (e : ℕ) → Bytes s → fieldsAt s e .mode ≤ 3
 two-bits s e bytes = omega (arith, le-small s bytes 8 (e + 8))
 
-pub part-acceptance : PartAcceptance
-part-acceptance = record { only = only-part; all = all-part; two-bits = two-bits }
+pub parts-accepted : PartsAccepted
+parts-accepted = record {
+  every = λ kind window s d i p fits. record { only = only-part kind window fits s d i p; all = all-part kind window fits s d i p };
+  two-bits = two-bits;
+}

@@ -1,15 +1,16 @@
 -- What a lookup's match and an entry's part are, as plain facts; and that exactly these are given. Assumes nothing: these are statements.
-use Prim.Native.Nat.{ℕ, _+_, _-_, _<_, _≤_}
+use Prim.Native.Nat.{ℕ, _+_, _<_, _≤_}
 use mathlib.Core.Path.{_≡_}
-use mathlib.Core.Logic.{_⊎_}
 use mathlib.Core.List.{List}
 use mathlib.Core.Bool.{false}
-use lib.ListN.{length, getD}
-use Rattle.le.specs.Le.{leAt, Bytes}
+use lib.ListN.{length}
+use Rattle.le.specs.Le.{Bytes}
 use Rattle.reply.specs.Reply.{Carried, given, refused, alone, tested, OneToOne}
 use Rattle.reply.specs.Scan.{Lowest, None}
-use Rattle.directory.specs.Directory.{cookieOf, totalAt, entryPlace, checksumAt, directoryAt, directoryByCookie, toldDirectory}
-use Rattle.entries.specs.Entry.{fieldsAt, entryOf, entryIn, leadIn, findIn, toldEntry, toldLookup}
+use Rattle.window.specs.Window.{fourGiB}
+use Rattle.window.specs.Inside.{Shown}
+use Rattle.directory.specs.Directory.{directoryAt}
+use Rattle.entries.specs.Entry.{fieldsAt, entryOf, entryIn, leadIn, findIn, toldEntry, toldMatch}
 use Rattle.entries.specs.Part.{partOf, partIn, toldPlace, toldPart}
 use Rattle.directory.specs.declared.Kind.{Kind}
 use Rattle.directory.specs.declared.Directory.{Directory}
@@ -20,7 +21,7 @@ use Rattle.entries.specs.declared.Part.{Part}
 -- no two answers of a call tell the same
 pub record ToldApart : Type 0 where
   pub entry : OneToOne toldEntry
-  pub lookup : OneToOne toldLookup
+  pub lookup : OneToOne toldMatch
   pub place : OneToOne toldPlace
   pub part : OneToOne toldPart
 
@@ -31,12 +32,12 @@ pub record EntryAcceptance : Type 0 where
   pub behind : (kind : Kind) (image : List ℕ) (d : Directory) (i : ℕ) → d .total ≤ i → entryIn kind image d i ≡ refused 8 alone
 
 -- entry i leads to level two
-abbrev pub Leads : Kind → List ℕ → Directory → ℕ → Type 0
+abbrev pub Leads : Kind → (image : List ℕ) → Directory → (i : ℕ) → Type 0
 Leads kind image d i = entryOf kind image d i .class ≡ kind .lead
 
 -- entry i has this type and subprogram
-abbrev pub Matches : Kind → List ℕ → Directory → ℕ → ℕ → ℕ → Type 0
-Matches kind image d type sub i = (entryOf kind image d i .class ≡ type) × (entryOf kind image d i .subprogram ≡ sub)
+abbrev pub Matches : Kind → (image : List ℕ) → Directory → (class sub i : ℕ) → Type 0
+Matches kind image d class sub i = (entryOf kind image d i .class ≡ class) × (entryOf kind image d i .subprogram ≡ sub)
 
 -- the lead is the lowest entry that leads, or 8, and never otherwise
 pub record LowestLead : Type 0 where
@@ -48,25 +49,25 @@ pub record LowestLead : Type 0 where
 
 -- the lookup gives the lowest match with its count, index + 1, or 8 with the total, and never otherwise
 pub record LowestMatch : Type 0 where
-  pub found : (kind : Kind) (image : List ℕ) (d : Directory) (type sub i : ℕ) → Lowest (Matches kind image d type sub) (d .total) i →
-      findIn kind image d type sub ≡ given (record { index = i; tested = i + 1 })
-  pub absent : (kind : Kind) (image : List ℕ) (d : Directory) (type sub : ℕ) → None (Matches kind image d type sub) (d .total) →
-      findIn kind image d type sub ≡ refused 8 (tested (d .total))
-  pub found-only : (kind : Kind) (image : List ℕ) (d : Directory) (type sub : ℕ) (m : Match) → findIn kind image d type sub ≡ given m →
-      Lowest (Matches kind image d type sub) (d .total) (m .index) × (m .tested ≡ m .index + 1)
-  pub absent-only : (kind : Kind) (image : List ℕ) (d : Directory) (type sub number : ℕ) (carried : Carried) → findIn kind image d type sub ≡ refused number carried →
-      None (Matches kind image d type sub) (d .total) × (number ≡ 8) × (carried ≡ tested (d .total))
+  pub found : (kind : Kind) (image : List ℕ) (d : Directory) (class sub i : ℕ) → Lowest (Matches kind image d class sub) (d .total) i →
+      findIn kind image d class sub ≡ given (record { index = i; tested = i + 1 })
+  pub absent : (kind : Kind) (image : List ℕ) (d : Directory) (class sub : ℕ) → None (Matches kind image d class sub) (d .total) →
+      findIn kind image d class sub ≡ refused 8 (tested (d .total))
+  pub found-only : (kind : Kind) (image : List ℕ) (d : Directory) (class sub : ℕ) (m : Match) → findIn kind image d class sub ≡ given m →
+      Lowest (Matches kind image d class sub) (d .total) (m .index) × (m .tested ≡ m .index + 1)
+  pub absent-only : (kind : Kind) (image : List ℕ) (d : Directory) (class sub number : ℕ) (carried : Carried) → findIn kind image d class sub ≡ refused number carried →
+      None (Matches kind image d class sub) (d .total) × (number ≡ 8) × (carried ≡ tested (d .total))
 
 -- a directory of a kind that may not repeat, where it is given: no two entries have one type and subprogram, and a lookup's match is the only one
 pub record NoRepeats : Type 0 where
   pub once : (kind : Kind) (limit level : ℕ) (image : List ℕ) (o : ℕ) (d : Directory) → kind .repeats ≡ false → directoryAt kind limit level image o ≡ given d →
-      (type sub i j : ℕ) → i < d .total → j < d .total → Matches kind image d type sub i → Matches kind image d type sub j → i ≡ j
+      (class sub i j : ℕ) → i < d .total → j < d .total → Matches kind image d class sub i → Matches kind image d class sub j → i ≡ j
   pub the-match : (kind : Kind) (limit level : ℕ) (image : List ℕ) (o : ℕ) (d : Directory) → kind .repeats ≡ false → directoryAt kind limit level image o ≡ given d →
-      (type sub : ℕ) (m : Match) → findIn kind image d type sub ≡ given m → (j : ℕ) → j < d .total → Matches kind image d type sub j → j ≡ m .index
+      (class sub : ℕ) (m : Match) → findIn kind image d class sub ≡ given m → (j : ℕ) → j < d .total → Matches kind image d class sub j → j ≡ m .index
 
--- where the bytes of entry e of a directory at o begin, in a window of so many bytes below 4 GiB
+-- where the bytes of entry e of a directory at o begin, through a window of so many bytes
 pub data BeginsAt (window o : ℕ) (e : Entry) (place : ℕ) : Type 0 where
-  physical : e .mode ≡ 0 → e .location ≡ 0x1_0000_0000 - window + place → e .location ≤ 0xFFFF_FFFF → BeginsAt window o e place
+  physical : e .mode ≡ 0 → Shown window (e .location) place → BeginsAt window o e place
   flash : e .mode ≡ 1 → e .location ≡ place → BeginsAt window o e place
   counted : e .mode ≡ 2 → o + e .location ≡ place → BeginsAt window o e place
 
@@ -78,9 +79,11 @@ pub record GoodPart (kind : Kind) (window : ℕ) (image : List ℕ) (o : ℕ) (e
   pub inside : p .place + p .length ≤ length image
 
 -- the part of entry i is given exactly where the index is below the total and the part good; its mode is of two bits, as that of an entry read from bytes is
-pub record PartAcceptance : Type 0 where
-  pub only : (kind : Kind) (window : ℕ) (image : List ℕ) (d : Directory) (i : ℕ) (p : Part) → entryOf kind image d i .mode ≤ 3 → partIn kind window image d i ≡ given p →
-      (i < d .total) × GoodPart kind window image (d .place .0) (entryOf kind image d i) p
-  pub all : (kind : Kind) (window : ℕ) (image : List ℕ) (d : Directory) (i : ℕ) (p : Part) → i < d .total → GoodPart kind window image (d .place .0) (entryOf kind image d i) p →
-      partIn kind window image d i ≡ given p
-  pub two-bits : (image : List ℕ) (e : ℕ) → Bytes image → fieldsAt image e .mode ≤ 3
+pub record PartAcceptance (kind : Kind) (window : ℕ) (image : List ℕ) (d : Directory) (i : ℕ) (p : Part) : Type 0 where
+  pub only : entryOf kind image d i .mode ≤ 3 → partIn kind window image d i ≡ given p → (i < d .total) × GoodPart kind window image (d .place .0) (entryOf kind image d i) p
+  pub all : i < d .total → GoodPart kind window image (d .place .0) (entryOf kind image d i) p → partIn kind window image d i ≡ given p
+
+-- so it is through every window that fits below 4 GiB
+pub record PartsAccepted : Type 0 where
+  pub every : (kind : Kind) (window : ℕ) (image : List ℕ) (d : Directory) (i : ℕ) (p : Part) → window ≤ fourGiB → PartAcceptance kind window image d i p
+  pub two-bits : (image : List ℕ) (place : ℕ) → Bytes image → fieldsAt image place .mode ≤ 3

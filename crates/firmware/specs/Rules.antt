@@ -31,10 +31,10 @@ interfaceOff f = record { interface = false; part1 = f .part1; part2 = f .part2;
 
 -- ---- 0x82, 0x83, 0x84: a part comes
 -- the ID in bits 15:10, and what is kept for it
-abbrev pub idIn : ℕ → ℕ
+abbrev pub idIn : (d : ℕ) → ℕ
 idIn d = d / 1024 % 64
 
-abbrev pub keptFor : Firmware → ℕ → Interrupt
+abbrev pub keptFor : Firmware → (id : ℕ) → Interrupt
 keptFor f id = getD (f .interrupts) id nothing
 
 -- these parts held
@@ -52,7 +52,7 @@ saving f one two three = record {
 }
 
 -- what comes where a part is held, and where it is not
-abbrev pub whenHeld : Part → (ℕ → Firmware) → Firmware → Firmware
+abbrev pub whenHeld : Part → (some : ℕ → Firmware) (none : Firmware) → Firmware
 whenHeld (part.Held value) some none = some value
 whenHeld part.Absent some none = none
 
@@ -63,12 +63,12 @@ settledOf f =
 
 -- ---- 0x85: delivery
 -- what comes where no descriptor is saved, and where one is
-abbrev pub whenSaved : {A : Type 0} → Descriptor → A → A → A
+abbrev pub whenSaved : {A : Type 0} → Descriptor → (none some : A) → A
 whenSaved descriptor.Absent none some = none
 whenSaved (descriptor.Saved one two three) none some = some
 
 -- the delivery of the ID in bits 15:10 is as bit 0 says
-abbrev pub delivering : Firmware → ℕ → Firmware
+abbrev pub delivering : Firmware → (d : ℕ) → Firmware
 delivering f d = record {
   interface = f .interface;
   part1 = f .part1;
@@ -77,7 +77,7 @@ delivering f d = record {
   interrupts = set (f .interrupts) (idIn d) (record { descriptor = keptFor f (idIn d) .descriptor; delivery = eqb (d % 2) 1 });
 }
 
-unfoldable pub deliveryOf : Firmware → ℕ → Ran
+unfoldable pub deliveryOf : Firmware → (d : ℕ) → Ran
 deliveryOf f d =
     cond (f .interface) (answers f 3 0x85 d)  -- interface on: status 3
     (cond (not (eqb (d / 2 % 512) 0)) (answers f 0x1F 0x85 d)  -- else bits 9:1 not zero: 0x1F
@@ -96,5 +96,5 @@ ruleOf f command d =
     (answers f 1 command d))))))  -- none of these: status 1
 
 -- a command word run: the state after it, and its response
-abbrev pub runOf : Firmware → ℕ → Ran
+abbrev pub runOf : Firmware → (w : ℕ) → Ran
 runOf f w = ruleOf f (commandIn w) (dataIn w)

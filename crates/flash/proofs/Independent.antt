@@ -6,7 +6,7 @@ use native.Mathlib.Omega.{arith}
 use lib.ListN.{length}
 use Rattle.reply.specs.Reply.{Reply, given, refused, alone, then}
 use Rattle.reply.proofs.ReplyLaws.{then-given, then-same}
-use Rattle.window.specs.Window.{offsetIn}
+use Rattle.window.specs.Window.{offsetIn, within}
 use Rattle.window.specs.declared.Offset.{Offset}
 use Rattle.directory.specs.Directory.{directoryAt, entryPlace, totalAt}
 use Rattle.entries.specs.Entry.{entryIn, leadIn, findIn}
@@ -18,16 +18,17 @@ use Rattle.directory.proofs.Accept.{acceptance}
 use Rattle.entries.proofs.Accept.{entry-acceptance}
 use Rattle.directory.proofs.Independent.{independence}
 use Rattle.entries.proofs.Independent.{leads-same, entries-independence}
-use Rattle.flash.specs.Efs.{efsOf, efsAt, efsIn, inImage, pointerTo, pointerOf, pointerIn}
-use Rattle.flash.specs.declared.Efs.{Efs}
-use Rattle.flash.specs.declared.Pointer.{Pointer}
-use Rattle.flash.specs.Flash.{Reading, levelOne, levelTwo, levelTwoAt, flashDirectory, flashEntry, flashPart, fromLookup, flashFind}
-use Rattle.flash.specs.Good.{GoodLength}
-use Rattle.flash.specs.Independent.{SameWay, FlashIndependence}
+use Rattle.efs.specs.Efs.{efsPlace, efsAt, efsIn, pointerTo, pointerOf, pointerIn}
+use Rattle.efs.specs.declared.Efs.{Efs}
+use Rattle.efs.specs.declared.Pointer.{Pointer}
+use Rattle.efs.specs.declared.Rules.{Rules}
+use Rattle.flash.specs.Flash.{levelOne, levelTwo, levelTwoAt, flashDirectory, flashEntry, flashPart, fromLookup, flashFind}
+use Rattle.efs.specs.Good.{GoodLength}
+use Rattle.flash.specs.Independent.{SameWay, SameAnswers, FlashIndependence}
 use Rattle.flash.proofs.Ways.{Opened, one, two, opened, open-one, open-two}
 
 -- a directory that is given is given by every image that agrees on it
-given-same : (r : Reading) (level : ℕ) (s t : List ℕ) (o : ℕ) (d : Directory) → 16 ≤ r .kind .entry → Agree s t (d .place .0) (endOf (r .kind) d) →
+given-same : (r : Rules) (level : ℕ) (s t : List ℕ) (o : ℕ) (d : Directory) → 16 ≤ r .kind .entry → Agree s t (d .place .0) (endOf (r .kind) d) →
     directoryAt (r .kind) (r .limit) level s o ≡ given d → directoryAt (r .kind) (r .limit) level t o ≡ given d
 given-same r level s t o d wide agree e =
     let g = acceptance .only (r .kind) (r .limit) level s o d e in
@@ -36,29 +37,29 @@ given-same r level s t o d wide agree e =
     let same : Agree s t o (entryPlace (r .kind) o (totalAt s o)) = rw (total, ← place) agree in
     sym (independence .directory (r .kind) (r .limit) level s t o wide same) ∙ e
 
-module _ (r : Reading) (s t : List ℕ) (long : length s ≡ length t) where
+module _ (r : Rules) (s t : List ℕ) (long : length s ≡ length t) where
   pointer-same : (p : ℕ) → pointerTo (r .window) s p ≡ pointerTo (r .window) t p
   unfolding pointerTo
-  pointer-same p = rw (then-same (offsetIn (r .window) p) (inImage s) (inImage t) (λ o q. rw long), long)
+  pointer-same p = rw (then-same (offsetIn (r .window) p) (λ o. within s (o .0) (given o)) (λ o. within t (o .0) (given o)) (λ o q. rw long), long)
 
   pointers-same : (e : Efs) → pointerOf (r .window) s e ≡ pointerOf (r .window) t e
   unfolding pointerOf
   pointers-same e = simp pointer-same
 
-module _ (r : Reading) (level : ℕ) (s t : List ℕ) (wide : 16 ≤ r .kind .entry) (way : SameWay r level s t) where
-  same-efs : efsIn (r .window) (r .candidates) s ≡ efsIn (r .window) (r .candidates) t
+module _ (r : Rules) (level : ℕ) (s t : List ℕ) (wide : 16 ≤ r .kind .entry) (way : SameWay r level s t) where
+  same-efs : efsIn r s ≡ efsIn r t
   same-efs =
-      then-same (efsOf (r .window) (r .candidates) s) (λ o. given (efsAt s o)) (λ o. given (efsAt t o)) (λ o q. rw (way .late o q, way .early o q))
-      ∙ ap (λ (x : Reply Offset). then x (λ o. given (efsAt t o))) (way .efs)
+      then-same (efsPlace (r .window) (r .candidates) s) (λ o. given (efsAt s o)) (λ o. given (efsAt t o)) (λ o q. rw (way .late o q, way .early o q))
+      ∙ ap (λ (x : Reply Offset). then x (λ o. given (efsAt t o))) (way .place)
 
-  same-pointer : pointerIn (r .window) (r .candidates) s ≡ pointerIn (r .window) (r .candidates) t
+  same-pointer : pointerIn r s ≡ pointerIn r t
   same-pointer =
-      then-same (efsIn (r .window) (r .candidates) s) (pointerOf (r .window) s) (pointerOf (r .window) t) (λ e q. pointers-same r s t (way .long) e)
+      then-same (efsIn r s) (pointerOf (r .window) s) (pointerOf (r .window) t) (λ e q. pointers-same r s t (way .long) e)
       ∙ ap (λ (x : Reply Efs). then x (pointerOf (r .window) t)) same-efs
 
   same-one : GoodLength s → (d : Directory) → 1 ≤ level → levelOne r s ≡ given d → levelOne r t ≡ given d
   same-one z d h e =
-      let q = then-given (pointerIn (r .window) (r .candidates) s) (λ p. directoryAt (r .kind) (r .limit) 1 s (p .place .0)) e in
+      let q = then-given (pointerIn r s) (λ p. directoryAt (r .kind) (r .limit) 1 s (p .place .0)) e in
       ap (λ (x : Reply Pointer). then x (λ p. directoryAt (r .kind) (r .limit) 1 t (p .place .0))) (sym same-pointer ∙ q .1)
       ∙ given-same r 1 s t (q .0 .place .0) d wide (way .directories 1 h d (open-one r s d z e)) (q .2)
 
@@ -71,12 +72,12 @@ module _ (r : Reading) (level : ℕ) (s t : List ℕ) (wide : 16 ≤ r .kind .en
       by : (l : ℕ) → l ≡ level → GoodLength s → Opened r s d l → flashDirectory r l t ≡ given d
       by l q z (one e) = open-one r t d (long z) (same-one z d (omega arith) e)
       by l q z (two above a e) =
-          let k = then-given (leadIn (r .kind) s above) (levelTwoAt (r .kind) (r .limit) (r .window) s (above .place .0)) e in
+          let k = then-given (leadIn (r .kind) s above) (levelTwoAt r s (above .place .0)) e in
           let p = then-given (leadsTo (r .window) s (above .place .0) (k .0)) (directoryAt (r .kind) (r .limit) 2 s) (k .2) in
-          let lead = sym (entries-independence .lead (r .kind) s t above wide (way .directories 1 (omega arith) above (open-one r s above z a))) ∙ k .1 in
+          let lead = sym (entries-independence (r .kind) s t above wide (way .directories 1 (omega arith) above (open-one r s above z a)) .lead) ∙ k .1 in
           let place = sym (leads-same (r .window) s t (way .long) (above .place .0) (k .0)) ∙ p .1 in
           open-two r t d (long z) above (same-one z above (omega arith) a)
-          (ap (λ (x : Reply Entry). then x (levelTwoAt (r .kind) (r .limit) (r .window) t (above .place .0))) lead
+          (ap (λ (x : Reply Entry). then x (levelTwoAt r t (above .place .0))) lead
           ∙ ap (λ (x : Reply ℕ). then x (directoryAt (r .kind) (r .limit) 2 t)) place
           ∙ given-same r 2 s t (p .0) d wide (way .directories 2 (omega arith) d (open-two r s d z above a e)) (p .2))
 
@@ -86,17 +87,19 @@ module _ (r : Reading) (level : ℕ) (s t : List ℕ) (wide : 16 ≤ r .kind .en
   same-after f d e h =
       ap (λ (x : Reply Directory). then x (f t)) (same-directory d e) ∙ sym (h (way .directories level (omega arith) d e)) ∙ ap (λ (x : Reply Directory). then x (f s)) (sym e)
 
-  same-find : (d : Directory) (type sub : ℕ) → flashDirectory r level s ≡ given d → flashFind r level t type sub ≡ flashFind r level s type sub
-  same-find d type sub e =
-      ap (λ (x : Reply Directory). then (fromLookup x) (λ d. findIn (r .kind) t d type sub)) (same-directory d e)
-      ∙ sym (entries-independence .lookup (r .kind) s t d type sub wide (way .directories level (omega arith) d e))
-      ∙ ap (λ (x : Reply Directory). then (fromLookup x) (λ d. findIn (r .kind) s d type sub)) (sym e)
+  same-find : (d : Directory) (class sub : ℕ) → flashDirectory r level s ≡ given d → flashFind r level t class sub ≡ flashFind r level s class sub
+  same-find d class sub e =
+      ap (λ (x : Reply Directory). then (fromLookup x) (λ d. findIn (r .kind) t d class sub)) (same-directory d e)
+      ∙ sym (entries-independence (r .kind) s t d wide (way .directories level (omega arith) d e) .lookup class sub)
+      ∙ ap (λ (x : Reply Directory). then (fromLookup x) (λ d. findIn (r .kind) s d class sub)) (sym e)
 
 pub flash-independence : FlashIndependence
 flash-independence = record {
-  directory = λ r level s t d wide way. same-directory r level s t wide way d;
-  entry = λ r level s t d i wide way e. same-after r level s t wide way (λ s d. entryIn (r .kind) s d i) d e (entries-independence .entry (r .kind) s t d i wide);
-  part = λ r level s t d i wide way e. same-after r level s t wide way (λ s d. partIn (r .kind) (r .window) s d i) d e (entries-independence .part (r .kind) (r .window) s t d i wide);
-  lookup = λ r level s t d type sub wide way. same-find r level s t wide way d type sub;
+  same = λ r level s t d wide way e. record {
+    directory = same-directory r level s t wide way d e;
+    entry = λ i. same-after r level s t wide way (λ s d. entryIn (r .kind) s d i) d e (λ agree. entries-independence (r .kind) s t d wide agree .entry i);
+    part = λ i. same-after r level s t wide way (λ s d. partIn (r .kind) (r .window) s d i) d e (λ agree. entries-independence (r .kind) s t d wide agree .part (r .window) i);
+    lookup = λ class sub. same-find r level s t wide way d class sub e;
+  };
   behind = λ r level s d i e h. ap (λ (x : Reply Directory). then x (λ d. entryIn (r .kind) s d i)) e ∙ entry-acceptance .behind (r .kind) s d i h;
 }

@@ -1,4 +1,3 @@
 pub mod Ways
 pub mod Accept
 pub mod Independent
-pub mod Told

@@ -14,26 +14,18 @@ use Rattle.entries.specs.Entry.{leadIn}
 use Rattle.entries.specs.Part.{leadsTo}
 use Rattle.directory.specs.declared.Directory.{Directory}
 use Rattle.directory.proofs.Accept.{acceptance}
-use Rattle.flash.specs.Efs.{pointerIn}
-use Rattle.flash.specs.Good.{GoodLength}
-use Rattle.flash.specs.Flash.{Reading, sized, levelOne, levelTwoAt, levelTwo, levelOf, flashDirectory}
-
--- what comes after the image's length
-pub sized-passed : {A : Type 0} (s : List ℕ) (rest : Reply A) → GoodLength s → sized s rest ≡ rest
-sized-passed s rest z = passed _ _ _ _ (le-leb _ _ (z .from)) ∙ passed _ _ _ _ (le-leb _ _ (z .to))
-
-pub sized-past : {A : Type 0} {a : A} (s : List ℕ) (rest : Reply A) → sized s rest ≡ given a → GoodLength s × (rest ≡ given a)
-sized-past s rest e =
-    let g = past (leb 1 (length s)) _ _ _ e in
-    let h = past (leb (length s) 16_777_216) _ _ _ (g .1) in
-    (record { from = leb-true _ _ (g .0); to = leb-true _ _ (h .0) }, h .1)
+use Rattle.efs.specs.Efs.{pointerIn}
+use Rattle.efs.specs.Good.{GoodLength}
+use Rattle.efs.specs.declared.Rules.{Rules}
+use Rattle.efs.proofs.Length.{sized-passed, sized-past}
+use Rattle.flash.specs.Flash.{levelOne, levelTwoAt, levelTwo, levelOf, flashDirectory}
 
 -- the two ways to a directory
-pub data Opened (r : Reading) (s : List ℕ) (d : Directory) : ℕ → Type 0 where
+pub data Opened (r : Rules) (s : List ℕ) (d : Directory) : ℕ → Type 0 where
   one : levelOne r s ≡ given d → Opened r s d 1
-  two : (above : Directory) → levelOne r s ≡ given above → levelTwo (r .kind) (r .limit) (r .window) s above ≡ given d → Opened r s d 2
+  two : (above : Directory) → levelOne r s ≡ given above → levelTwo r s above ≡ given d → Opened r s d 2
 
-module _ (r : Reading) (s : List ℕ) (d : Directory) where
+module _ (r : Rules) (s : List ℕ) (d : Directory) where
   pub opened : (level : ℕ) → flashDirectory r level s ≡ given d → GoodLength s × Opened r s d level
   unfolding flashDirectory
   opened level e =
@@ -44,31 +36,31 @@ module _ (r : Reading) (s : List ℕ) (d : Directory) where
       let z = sized-past s (levelOf r level s) (h .1) in
       (z .0, by (eqb level 1) refl from to (z .1))
     where
-      by : (b : Bool) → eqb level 1 ≡ b → 1 ≤ level → level ≤ 2 → cond b (levelOne r s) (then (levelOne r s) (levelTwo (r .kind) (r .limit) (r .window) s)) ≡ given d → Opened r s d level
+      by : (b : Bool) → eqb level 1 ≡ b → 1 ≤ level → level ≤ 2 → cond b (levelOne r s) (then (levelOne r s) (levelTwo r s)) ≡ given d → Opened r s d level
       by true q from to e = rw (eqb-true level 1 q) (one e)
       by false q from to e =
           let n : level ≡ 1 → ⊥ = eqb-false _ _ q in
           let l : level ≡ 2 = omega arith in
-          let t = then-given (levelOne r s) (levelTwo (r .kind) (r .limit) (r .window) s) e in
+          let t = then-given (levelOne r s) (levelTwo r s) e in
           rw l (two (t .0) (t .1) (t .2))
 
   pub open-one : GoodLength s → levelOne r s ≡ given d → flashDirectory r 1 s ≡ given d
   unfolding flashDirectory
   open-one z e = sized-passed s (levelOne r s) z ∙ e
 
-  pub open-two : GoodLength s → (above : Directory) → levelOne r s ≡ given above → levelTwo (r .kind) (r .limit) (r .window) s above ≡ given d → flashDirectory r 2 s ≡ given d
+  pub open-two : GoodLength s → (above : Directory) → levelOne r s ≡ given above → levelTwo r s above ≡ given d → flashDirectory r 2 s ≡ given d
   unfolding flashDirectory
-  open-two z above e h = sized-passed s _ z ∙ ap (λ (x : Reply Directory). then x (levelTwo (r .kind) (r .limit) (r .window) s)) e ∙ h
+  open-two z above e h = sized-passed s _ z ∙ ap (λ (x : Reply Directory). then x (levelTwo r s)) e ∙ h
 
 -- a directory that is given is small, and so is the image
-pub opened-small : (r : Reading) (s : List ℕ) (d : Directory) (level : ℕ) → flashDirectory r level s ≡ given d → GoodLength s × (d .total ≤ r .limit)
+pub opened-small : (r : Rules) (s : List ℕ) (d : Directory) (level : ℕ) → flashDirectory r level s ≡ given d → GoodLength s × (d .total ≤ r .limit)
 opened-small r s d level e = let o = opened r s d level e in (o .0, by (o .1))
   where
     by : {l : ℕ} → Opened r s d l → d .total ≤ r .limit
     by (one q) =
-        let t = then-given (pointerIn (r .window) (r .candidates) s) (λ p. directoryAt (r .kind) (r .limit) 1 s (p .place .0)) q in
+        let t = then-given (pointerIn r s) (λ p. directoryAt (r .kind) (r .limit) 1 s (p .place .0)) q in
         acceptance .only (r .kind) (r .limit) 1 s (t .0 .place .0) d (t .2) .0 .few
     by (two above a q) =
-        let k = then-given (leadIn (r .kind) s above) (levelTwoAt (r .kind) (r .limit) (r .window) s (above .place .0)) q in
+        let k = then-given (leadIn (r .kind) s above) (levelTwoAt r s (above .place .0)) q in
         let t = then-given (leadsTo (r .window) s (above .place .0) (k .0)) (directoryAt (r .kind) (r .limit) 2 s) (k .2) in
         acceptance .only (r .kind) (r .limit) 2 s (t .0) d (t .2) .0 .few

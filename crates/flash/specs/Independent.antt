@@ -1,33 +1,36 @@
--- What is answered of a flash image's directory depends on the way to it and on its own bytes alone. Assumes nothing: these are statements.
-use Prim.Native.Nat.{ℕ, _+_, _≤_}
+-- What lies outside the way to a directory, and outside the directory, has no part in what is answered of it. Assumes nothing: these are statements.
+use Prim.Native.Nat.{ℕ, _≤_}
 use mathlib.Core.Path.{_≡_}
 use mathlib.Core.List.{List}
 use lib.ListN.{length}
-use Rattle.le.specs.Le.{leAt}
+use Rattle.le.specs.Field.{get}
 use Rattle.reply.specs.Reply.{given, refused, alone}
 use Rattle.window.specs.declared.Offset.{Offset}
 use Rattle.directory.specs.Independent.{Agree, endOf}
 use Rattle.directory.specs.declared.Directory.{Directory}
-use Rattle.flash.specs.Efs.{efsOf}
-use Rattle.flash.specs.Flash.{Reading, flashDirectory, flashEntry, flashPart, flashFind}
+use Rattle.efs.specs.Fields as efs
+use Rattle.efs.specs.Efs.{efsPlace}
+use Rattle.efs.specs.declared.Rules.{Rules}
+use Rattle.flash.specs.Flash.{flashDirectory, flashEntry, flashPart, flashFind}
 
 -- two images of one length with the same EFS and pointers, that agree from begin to end of the directory of each level up to the one asked for
-pub record SameWay (r : Reading) (level : ℕ) (image other : List ℕ) : Type 0 where
+pub record SameWay (r : Rules) (level : ℕ) (image other : List ℕ) : Type 0 where
   pub long : length image ≡ length other
-  pub efs : efsOf (r .window) (r .candidates) image ≡ efsOf (r .window) (r .candidates) other
-  pub late : (e : Offset) → efsOf (r .window) (r .candidates) image ≡ given e → leAt 4 image (e .0 + 0x14) ≡ leAt 4 other (e .0 + 0x14)
-  pub early : (e : Offset) → efsOf (r .window) (r .candidates) image ≡ given e → leAt 4 image (e .0 + 0x10) ≡ leAt 4 other (e .0 + 0x10)
+  pub place : efsPlace (r .window) (r .candidates) image ≡ efsPlace (r .window) (r .candidates) other
+  pub late : (e : Offset) → efsPlace (r .window) (r .candidates) image ≡ given e → get efs.late image (e .0) ≡ get efs.late other (e .0)
+  pub early : (e : Offset) → efsPlace (r .window) (r .candidates) image ≡ given e → get efs.early image (e .0) ≡ get efs.early other (e .0)
   pub directories : (l : ℕ) → l ≤ level → (d : Directory) → flashDirectory r l image ≡ given d → Agree image other (d .place .0) (endOf (r .kind) d)
 
--- of a directory that is given, both images answer the same, for each index and each lookup; of a kind whose entries have 16 bytes or more
+-- both images answer the same of the directory d, for each index and each lookup
+pub record SameAnswers (r : Rules) (level : ℕ) (image other : List ℕ) (d : Directory) : Type 0 where
+  pub directory : flashDirectory r level other ≡ given d
+  pub entry : (i : ℕ) → flashEntry r level other i ≡ flashEntry r level image i
+  pub part : (i : ℕ) → flashPart r level other i ≡ flashPart r level image i
+  pub lookup : (class sub : ℕ) → flashFind r level other class sub ≡ flashFind r level image class sub
+
 pub record FlashIndependence : Type 0 where
-  pub directory : (r : Reading) (level : ℕ) (image other : List ℕ) (d : Directory) → 16 ≤ r .kind .entry → SameWay r level image other → flashDirectory r level image ≡ given d →
-      flashDirectory r level other ≡ given d
-  pub entry : (r : Reading) (level : ℕ) (image other : List ℕ) (d : Directory) (i : ℕ) → 16 ≤ r .kind .entry → SameWay r level image other → flashDirectory r level image ≡ given d →
-      flashEntry r level other i ≡ flashEntry r level image i
-  pub part : (r : Reading) (level : ℕ) (image other : List ℕ) (d : Directory) (i : ℕ) → 16 ≤ r .kind .entry → SameWay r level image other → flashDirectory r level image ≡ given d →
-      flashPart r level other i ≡ flashPart r level image i
-  pub lookup : (r : Reading) (level : ℕ) (image other : List ℕ) (d : Directory) (type sub : ℕ) → 16 ≤ r .kind .entry → SameWay r level image other → flashDirectory r level image ≡ given d →
-      flashFind r level other type sub ≡ flashFind r level image type sub
+  -- of a directory that is given, and of a kind whose entries have 16 bytes or more
+  pub same : (r : Rules) (level : ℕ) (image other : List ℕ) (d : Directory) → 16 ≤ r .kind .entry → SameWay r level image other → flashDirectory r level image ≡ given d →
+      SameAnswers r level image other d
   -- at or above the total 8, whatever lies behind
-  pub behind : (r : Reading) (level : ℕ) (image : List ℕ) (d : Directory) (i : ℕ) → flashDirectory r level image ≡ given d → d .total ≤ i → flashEntry r level image i ≡ refused 8 alone
+  pub behind : (r : Rules) (level : ℕ) (image : List ℕ) (d : Directory) (i : ℕ) → flashDirectory r level image ≡ given d → d .total ≤ i → flashEntry r level image i ≡ refused 8 alone

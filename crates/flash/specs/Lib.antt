@@ -1,4 +1,3 @@
-pub mod Efs
 pub mod Flash
 pub mod Good
 pub mod Independent

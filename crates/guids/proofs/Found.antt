@@ -12,9 +12,9 @@ use Rattle.reply.proofs.ReplyLaws.{clash, passed, failed}
 use Rattle.reply.specs.Scan.{Lowest, None}
 use Rattle.reply.proofs.Lowest.{Searched, lowest, none, Decided, lowest-found, none-found, searched}
 use Rattle.guids.specs.declared.Guid.{Guid}
-use Rattle.guids.specs.declared.Entry.{Entry}
-use Rattle.guids.specs.declared.Match.{Match}
-use Rattle.guids.specs.Table.{guidAt, sameGuid, footer, totalAt, headerOf, tableOf, noEntry, matchAt, nowhere, findIn}
+use Rattle.guids.specs.declared.GuidEntry.{GuidEntry}
+use Rattle.guids.specs.declared.GuidMatch.{GuidMatch}
+use Rattle.guids.specs.Table.{guidAt, sameGuid, footer, footerAt, totalAt, headerOf, tableOf, noEntry, matchAt, nowhere, findIn}
 use Rattle.guids.specs.Found.{Has, FirstMatchFound, EntryGiven, LeastTotal}
 use Rattle.guids.proofs.Walk.{walk-end}
 
@@ -30,11 +30,11 @@ pub true-same : (g h : Guid) → g ≡ h → sameGuid g h ≡ true
 true-same g h e = simp (eq-eqb _ _ (ap (λ (x : Guid). x .low) e), eq-eqb _ _ (ap (λ (x : Guid). x .high) e))
 
 -- the search in a list of entries comes to the lowest match, or there is none
-module _ (g : Guid) (entries : List Entry) where
+module _ (g : Guid) (entries : List GuidEntry) where
   abbrev by-test : Decided (Has g entries)
   by-test = record { test = λ i. sameGuid (getD entries i noEntry .guid) g; says = λ i. true-same _ _; holds = λ i. same-true _ _ }
 
-  abbrev matchedAt : ℕ → Reply Match
+  abbrev matchedAt : ℕ → Reply GuidMatch
   matchedAt i = given (matchAt entries i)
 
   in-found : (i : ℕ) → Lowest (Has g entries) (length entries) i → findIn g entries ≡ matchedAt i
@@ -49,7 +49,7 @@ module _ (g : Guid) (entries : List Entry) where
   search : Search
   search = searched (Has g entries) by-test matchedAt nowhere (length entries)
 
-  in-found-only : (m : Match) → findIn g entries ≡ given m → (i : ℕ) × Lowest (Has g entries) (length entries) i × (m ≡ matchAt entries i)
+  in-found-only : (m : GuidMatch) → findIn g entries ≡ given m → (i : ℕ) × Lowest (Has g entries) (length entries) i × (m ≡ matchAt entries i)
   in-found-only m e = by search
     where
       by : Search → (i : ℕ) × Lowest (Has g entries) (length entries) i × (m ≡ matchAt entries i)
@@ -79,12 +79,12 @@ entry-given = record {
   checked = λ s i w c e. rw e;
 }
 
-module _ (s : List ℕ) (long : 50 ≤ length s) (foot : guidAt s (length s - 48) ≡ footer) where
+module _ (s : List ℕ) (long : 50 ≤ length s) (foot : guidAt s (footerAt s) ≡ footer) where
   total-18 : totalAt s ≡ 18 → tableOf s ≡ given (record { total = 18; entries = 0 })
   unfolding headerOf
   total-18 e =
       let h : headerOf s ≡ given 18 = simp (le-leb 50 (length s) long, true-same _ _ foot, e, le-leb 18 (length s - 32) (omega arith)) in
-      rw (h, walk-end s (length s - 50) (18 - 18) refl, e)
+      rw (h, walk-end s (footerAt s) (18 - 18) refl, e)
 
   total-below : totalAt s < 18 → tableOf s ≡ refused 3 alone
   unfolding headerOf

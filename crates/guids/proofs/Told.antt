@@ -3,65 +3,65 @@ use mathlib.Core.Path.{_≡_, refl}
 use Prim.Native.Nat.{ℕ}
 use Rattle.reply.specs.Reply.{Reply, given, refused, alone, tested, Settled}
 use Rattle.reply.proofs.ReplyLaws.{one-by, settled}
-use Rattle.guids.specs.declared.Entry.{Entry}
+use Rattle.guids.specs.declared.GuidEntry.{GuidEntry}
 use Rattle.guids.specs.declared.Totals.{Totals}
-use Rattle.guids.specs.declared.Match.{Match}
-use Rattle.guids.specs.declared.Total.{Total}
-use Rattle.guids.specs.declared.Total.the-variants as total
-use Rattle.guids.specs.declared.Checked.{Checked}
-use Rattle.guids.specs.declared.Checked.the-variants as checked
-use Rattle.guids.specs.declared.Read.{Read}
-use Rattle.guids.specs.declared.Read.the-variants as read
-use Rattle.guids.specs.declared.Lookup.{Lookup}
-use Rattle.guids.specs.declared.Lookup.the-variants as lookup
-use Rattle.guids.specs.Table.{toldTotal, toldTable, toldEntry, toldLookup}
+use Rattle.guids.specs.declared.GuidMatch.{GuidMatch}
+use Rattle.guids.specs.declared.LengthAnswer.{LengthAnswer}
+use Rattle.guids.specs.declared.LengthAnswer.the-variants as lengthAnswer
+use Rattle.guids.specs.declared.TotalsAnswer.{TotalsAnswer}
+use Rattle.guids.specs.declared.TotalsAnswer.the-variants as totalsAnswer
+use Rattle.guids.specs.declared.GuidEntryAnswer.{GuidEntryAnswer}
+use Rattle.guids.specs.declared.GuidEntryAnswer.the-variants as guidEntryAnswer
+use Rattle.guids.specs.declared.GuidMatchAnswer.{GuidMatchAnswer}
+use Rattle.guids.specs.declared.GuidMatchAnswer.the-variants as guidMatchAnswer
+use Rattle.guids.specs.Table.{toldLength, toldTotals, toldGuidEntry, toldGuidMatch}
 
 -- start, extend
-abbrev totalBack : Reply ℕ → Total
-totalBack (given n) = total.Given n
-totalBack (refused number carried) = total.Refused (record { number = number })
+abbrev lengthBack : Reply ℕ → LengthAnswer
+lengthBack (given n) = lengthAnswer.Given n
+lengthBack (refused number carried) = lengthAnswer.Refused (record { number = number })
 
-total-back : (x : Total) → totalBack (toldTotal x) ≡ x
-total-back (total.Given n) = refl
-total-back (total.Refused why) = refl
+length-back : (x : LengthAnswer) → lengthBack (toldLength x) ≡ x
+length-back (lengthAnswer.Given n) = refl
+length-back (lengthAnswer.Refused why) = refl
 
-pub total-settled : Settled toldTotal
-total-settled = settled toldTotal (one-by toldTotal totalBack total-back)
+pub length-settled : Settled toldLength
+length-settled = settled toldLength (one-by toldLength lengthBack length-back)
 
 -- table
-abbrev tableBack : Reply Totals → Checked
-tableBack (given t) = checked.Given t
-tableBack (refused number carried) = checked.Refused (record { number = number })
+abbrev totalsBack : Reply Totals → TotalsAnswer
+totalsBack (given t) = totalsAnswer.Given t
+totalsBack (refused number carried) = totalsAnswer.Refused (record { number = number })
 
-table-back : (x : Checked) → tableBack (toldTable x) ≡ x
-table-back (checked.Given t) = refl
-table-back (checked.Refused why) = refl
+totals-back : (x : TotalsAnswer) → totalsBack (toldTotals x) ≡ x
+totals-back (totalsAnswer.Given t) = refl
+totals-back (totalsAnswer.Refused why) = refl
 
-pub table-settled : Settled toldTable
-table-settled = settled toldTable (one-by toldTable tableBack table-back)
+pub totals-settled : Settled toldTotals
+totals-settled = settled toldTotals (one-by toldTotals totalsBack totals-back)
 
--- entry_at
-abbrev entryBack : Reply Entry → Read
-entryBack (given e) = read.Given e
-entryBack (refused number carried) = read.Refused (record { number = number })
+-- entry
+abbrev guidEntryBack : Reply GuidEntry → GuidEntryAnswer
+guidEntryBack (given e) = guidEntryAnswer.Given e
+guidEntryBack (refused number carried) = guidEntryAnswer.Refused (record { number = number })
 
-entry-back : (x : Read) → entryBack (toldEntry x) ≡ x
-entry-back (read.Given e) = refl
-entry-back (read.Refused why) = refl
+guid-entry-back : (x : GuidEntryAnswer) → guidEntryBack (toldGuidEntry x) ≡ x
+guid-entry-back (guidEntryAnswer.Given e) = refl
+guid-entry-back (guidEntryAnswer.Refused why) = refl
 
-pub entry-settled : Settled toldEntry
-entry-settled = settled toldEntry (one-by toldEntry entryBack entry-back)
+pub guid-entry-settled : Settled toldGuidEntry
+guid-entry-settled = settled toldGuidEntry (one-by toldGuidEntry guidEntryBack guid-entry-back)
 
 -- find
-abbrev lookupBack : Reply Match → Lookup
-lookupBack (given m) = lookup.Given m
-lookupBack (refused number alone) = lookup.Refused (record { number = number })
-lookupBack (refused number (tested n)) = lookup.Absent n
+abbrev guidMatchBack : Reply GuidMatch → GuidMatchAnswer
+guidMatchBack (given m) = guidMatchAnswer.Given m
+guidMatchBack (refused number alone) = guidMatchAnswer.Refused (record { number = number })
+guidMatchBack (refused number (tested n)) = guidMatchAnswer.Absent n
 
-lookup-back : (x : Lookup) → lookupBack (toldLookup x) ≡ x
-lookup-back (lookup.Given m) = refl
-lookup-back (lookup.Absent n) = refl
-lookup-back (lookup.Refused why) = refl
+guid-match-back : (x : GuidMatchAnswer) → guidMatchBack (toldGuidMatch x) ≡ x
+guid-match-back (guidMatchAnswer.Given m) = refl
+guid-match-back (guidMatchAnswer.Absent n) = refl
+guid-match-back (guidMatchAnswer.Refused why) = refl
 
-pub lookup-settled : Settled toldLookup
-lookup-settled = settled toldLookup (one-by toldLookup lookupBack lookup-back)
+pub guid-match-settled : Settled toldGuidMatch
+guid-match-settled = settled toldGuidMatch (one-by toldGuidMatch guidMatchBack guid-match-back)

@@ -1,3 +1,4 @@
+pub mod Ending
 pub mod Table
 pub mod Layout
 pub mod Found

@@ -3,8 +3,8 @@ ghost use mathlib.Core.Path.{_≡_};
 ghost use Prim.Native.Nat.{_+_, _-_, _^_, _<_, _≤_};
 ghost use lib.ListN.{length};
 ghost use Rattle.reply.specs.Reply.{given, then};
-ghost use Rattle.le.specs.Le.{leAt};
-ghost use Rattle.guids.specs.Table.{guidAt, sameGuid, footer, headerOf, lengthBefore, entryBefore, entriesBefore, entriesUnder, totalsOf, tableOf, findIn, findOf, entryOf, toldTotal, toldTable, toldLookup, toldEntry};
+ghost use Rattle.guids.specs.Ending.{endLength};
+ghost use Rattle.guids.specs.Table.{lengthAt, guidAt, sameGuid, footer, headerOf, lengthBefore, entryBefore, entriesBefore, entriesUnder, totalsOf, tableOf, findIn, findOf, entryOf, toldLength, toldTotals, toldGuidMatch, toldGuidEntry};
 use reply::Refusal;
 
 // A GUID: its sixteen bytes in memory are those of `low`, then those of `high`, lowest first.
@@ -22,10 +22,21 @@ impl Guid {
 }
 
 // An entry: its GUID, and where in the image its data begins and how many bytes it has.
-pub struct Entry {
+pub struct GuidEntry {
     pub guid: Guid,
     pub place: usize,
     pub length: usize,
+}
+
+impl GuidEntry {
+    // what an entry ends with, and the table itself: so many bytes, and where in them the fields begin
+    pub const END: usize = 18;
+
+    pub const WHOLE_LENGTH: usize = 0;
+
+    pub const LOW: usize = 2;
+
+    pub const HIGH: usize = 10;
 }
 
 // A table's total, in bytes, and the number of its entries.
@@ -34,185 +45,212 @@ pub struct Totals {
     pub entries: u32,
 }
 
+impl Totals {
+    // the bytes behind a table, to the image's end
+    pub const BEHIND: usize = 32;
+
+    // the bytes of the shortest image with a table: the table's end, and the bytes behind it
+    pub const SHORTEST: usize = GuidEntry::END + Totals::BEHIND;
+
+    // the largest total
+    pub const LARGEST: usize = 65535;
+}
+
 // A lookup's match: its data's place and length, and the number of entries tested.
-pub struct Match {
+pub struct GuidMatch {
     pub place: usize,
     pub length: usize,
     pub tested: u32,
 }
 
-// A table's total, as read or as a start or an extend leaves it, or why there is none.
-pub enum Total {
+// A length, or why there is none: a table's total, as read or as a start or an extend leaves it, an entry's, or that of a list of entries.
+pub enum LengthAnswer {
     Given(u32),
     Refused(Refusal),
 }
 
 // What a check of a table answers.
-pub enum Checked {
+pub enum TotalsAnswer {
     Given(Totals),
     Refused(Refusal),
 }
 
 // What the entry at a position is, or why there is none.
-pub enum Read {
-    Given(Entry),
+pub enum GuidEntryAnswer {
+    Given(GuidEntry),
     Refused(Refusal),
 }
 
 // What a lookup answers: the match, no such entry among so many tested, or why the table is refused.
-pub enum Lookup {
-    Given(Match),
+pub enum GuidMatchAnswer {
+    Given(GuidMatch),
     Absent(u32),
     Refused(Refusal),
 }
 
-// The GUID whose sixteen bytes lie at a place.
+// The GUID of an end that begins at a place.
 fn guid_at(image: &[u8], at: usize) -> Guid
-    requires { ⌜ at + 16 ≤ length (now image) ⌝ }
+    requires { ⌜ at + endLength ≤ length (now image) ⌝ }
     ensures { λ r. ⌜ r ≡ guidAt (now (image .entry)) at ⌝ }
 {
+    let end = &image[at..at + GuidEntry::END];
     Guid {
-        low: le::u64_at(&image[at..at + 8], 0),
-        high: le::u64_at(&image[at + 8..at + 16], 0),
+        low: le::u64_at(end, GuidEntry::LOW),
+        high: le::u64_at(end, GuidEntry::HIGH),
     }
 }
 
-// Is the GUID at a place this one? Most differ in the low half, so the high half is read only where the low ones are the same.
+// Is the GUID of an end this one? Most differ in the low half, so the high half is read only where the low ones are the same.
 fn has_guid(image: &[u8], at: usize, guid: Guid) -> bool
-    requires { ⌜ at + 16 ≤ length (now image) ⌝ }
+    requires { ⌜ at + endLength ≤ length (now image) ⌝ }
     ensures { λ r. ⌜ r ≡ sameGuid (guidAt (now (image .entry)) at) guid ⌝ }
 {
-    if le::u64_at(&image[at..at + 8], 0) == guid.low {
-        le::u64_at(&image[at + 8..at + 16], 0) == guid.high
+    let end = &image[at..at + GuidEntry::END];
+    if le::u64_at(end, GuidEntry::LOW) == guid.low {
+        le::u64_at(end, GuidEntry::HIGH) == guid.high
     } else {
         false
     }
 }
 
-// The checks before the entries: the table's total.
-fn header(image: &[u8]) -> Total
-    ensures { λ r. ⌜ toldTotal r ≡ headerOf (now (image .entry)) ⌝ }
+// The length of an end that begins at a place.
+fn length_at(image: &[u8], at: usize) -> u16
+    requires { ⌜ at + endLength ≤ length (now image) ⌝ }
+    ensures { λ r. ⌜ r ≡ lengthAt (now (image .entry)) at ⌝ }
 {
-    if image.len() < 50 {
-        return Total::Refused(Refusal::SHORT);
+    le::u16_at(&image[at..at + GuidEntry::END], GuidEntry::WHOLE_LENGTH)
+}
+
+// The checks before the entries: the table's total.
+fn header(image: &[u8]) -> LengthAnswer
+    ensures { λ r. ⌜ toldLength r ≡ headerOf (now (image .entry)) ⌝ }
+{
+    if image.len() < Totals::SHORTEST {
+        return LengthAnswer::Refused(Refusal::SHORT);
     }
-    if has_guid(image, image.len() - 48, Guid::FOOTER) {
-        let total = le::u16_at(image, image.len() - 50);
-        if total < 18 {
-            return Total::Refused(Refusal::LIMITS);
+    let at = image.len() - Totals::SHORTEST;
+    if has_guid(image, at, Guid::FOOTER) {
+        let total = length_at(image, at) as usize;
+        if total < GuidEntry::END {
+            return LengthAnswer::Refused(Refusal::LIMITS);
         }
-        if image.len() - 32 < total as usize {
-            return Total::Refused(Refusal::LIMITS);
+        if image.len() - Totals::BEHIND < total {
+            return LengthAnswer::Refused(Refusal::LIMITS);
         }
-        Total::Given(total as u32)
+        LengthAnswer::Given(total as u32)
     } else {
-        Total::Refused(Refusal::SIGNATURE)
+        LengthAnswer::Refused(Refusal::SIGNATURE)
     }
 }
 
 // The length of the entry that ends at a place, where `left` bytes are left.
-fn length_before(image: &[u8], end: usize, left: usize) -> Total
+fn length_before(image: &[u8], end: usize, left: usize) -> LengthAnswer
     requires { ⌜ (left ≤ end) × (end ≤ length (now image)) ⌝ }
-    ensures { λ r. ⌜ toldTotal r ≡ lengthBefore (now (image .entry)) end left ⌝ }
+    ensures { λ r. ⌜ toldLength r ≡ lengthBefore (now (image .entry)) end left ⌝ }
 {
-    if left < 18 {
-        return Total::Refused(Refusal::STRUCTURE);
+    if left < GuidEntry::END {
+        return LengthAnswer::Refused(Refusal::STRUCTURE);
     }
-    let length = le::u16_at(&image[end - 18..end - 16], 0);
-    if length < 18 {
-        return Total::Refused(Refusal::STRUCTURE);
+    let length = length_at(image, end - GuidEntry::END) as usize;
+    if length < GuidEntry::END {
+        return LengthAnswer::Refused(Refusal::STRUCTURE);
     }
-    if left < length as usize {
-        return Total::Refused(Refusal::STRUCTURE);
+    if left < length {
+        return LengthAnswer::Refused(Refusal::STRUCTURE);
     }
-    Total::Given(length as u32)
+    LengthAnswer::Given(length as u32)
 }
 
 // Checks and counts the entries of so many bytes that end at a place, backwards.
-fn counted(image: &[u8], from: usize, bytes: usize) -> Total
+fn counted(image: &[u8], from: usize, bytes: usize) -> LengthAnswer
     requires { ⌜ (bytes ≤ from) × (from ≤ length (now image)) × (bytes < 2 ^ 32) ⌝ }
-    ensures { λ r. ⌜ toldTotal r ≡ then (entriesBefore (now (image .entry)) from bytes) (λ entries. given (length entries)) ⌝ }
+    ensures { λ r. ⌜ toldLength r ≡ then (entriesBefore (now (image .entry)) from bytes) (λ entries. given (length entries)) ⌝ }
 {
     let mut end = from;
     let mut left = bytes;
     let mut count: u32 = 0;
     while 0 < left {
         match length_before(image, end, left) {
-            Total::Given(length) => {
+            LengthAnswer::Given(length) => {
                 end -= length as usize;
                 left -= length as usize;
                 count += 1;
             }
-            Total::Refused(why) => return Total::Refused(why),
+            LengthAnswer::Refused(why) => return LengthAnswer::Refused(why),
         }
     }
-    Total::Given(count)
+    LengthAnswer::Given(count)
 }
 
 // The totals of a table of this total, its entries checked.
-fn table_under(image: &[u8], total: u32) -> Checked
+fn totals_under(image: &[u8], total: u32) -> TotalsAnswer
     requires { ⌜ headerOf (now image) ≡ given total ⌝ }
-    ensures { λ r. ⌜ toldTable r ≡ then (entriesUnder (now (image .entry)) total) (totalsOf (now (image .entry))) ⌝ }
+    ensures { λ r. ⌜ toldTotals r ≡ then (entriesUnder (now (image .entry)) total) (totalsOf (now (image .entry))) ⌝ }
 {
-    match counted(image, image.len() - 50, (total as usize) - 18) {
-        Total::Given(entries) => Checked::Given(Totals {
+    match counted(
+        image,
+        image.len() - Totals::SHORTEST,
+        (total as usize) - GuidEntry::END,
+    ) {
+        LengthAnswer::Given(entries) => TotalsAnswer::Given(Totals {
             total: total,
             entries: entries,
         }),
-        Total::Refused(why) => Checked::Refused(why),
+        LengthAnswer::Refused(why) => TotalsAnswer::Refused(why),
     }
 }
 
 // Checks a table: its total, and the number of its entries.
-pub fn table(image: &[u8]) -> Checked
-    ensures { λ r. ⌜ toldTable r ≡ tableOf (now (image .entry)) ⌝ }
+pub fn table(image: &[u8]) -> TotalsAnswer
+    ensures { λ r. ⌜ toldTotals r ≡ tableOf (now (image .entry)) ⌝ }
 {
     match header(image) {
-        Total::Given(total) => table_under(image, total),
-        Total::Refused(why) => Checked::Refused(why),
+        LengthAnswer::Given(total) => totals_under(image, total),
+        LengthAnswer::Refused(why) => TotalsAnswer::Refused(why),
     }
 }
 
 // The entry that ends at a place of a checked table.
-fn entry_before(image: &[u8], end: usize) -> Entry
-    requires { ⌜ (end ≤ length (now image)) × (18 ≤ leAt 2 (now image) (end - 18)) × (leAt 2 (now image) (end - 18) ≤ end) ⌝ }
-    ensures { λ r. ⌜ r ≡ entryBefore (now (image .entry)) end (leAt 2 (now (image .entry)) (end - 18)) ⌝ }
+fn entry_before(image: &[u8], end: usize) -> GuidEntry
+    requires { ⌜ (end ≤ length (now image)) × (endLength ≤ lengthAt (now image) (end - endLength)) × (lengthAt (now image) (end - endLength) ≤ end) ⌝ }
+    ensures { λ r. ⌜ r ≡ entryBefore (now (image .entry)) end (lengthAt (now (image .entry)) (end - endLength)) ⌝ }
 {
-    let length = le::u16_at(&image[end - 18..end - 16], 0) as usize;
-    Entry {
-        guid: guid_at(image, end - 16),
+    let at = end - GuidEntry::END;
+    let length = length_at(image, at) as usize;
+    GuidEntry {
+        guid: guid_at(image, at),
         place: end - length,
-        length: length - 18,
+        length: length - GuidEntry::END,
     }
 }
 
 // A match, where the entries of the `left` bytes before its data are good: one that is not refuses the whole table.
-fn checked_match(image: &[u8], found: Match, left: usize) -> Lookup
+fn checked_match(image: &[u8], found: GuidMatch, left: usize) -> GuidMatchAnswer
     requires { ⌜ (left ≤ found .place) × (found .place ≤ length (now image)) × (left < 2 ^ 32) ⌝ }
-    ensures { λ r. ⌜ toldLookup r ≡ then (entriesBefore (now (image .entry)) (found .place) left) (λ _. given found) ⌝ }
+    ensures { λ r. ⌜ toldGuidMatch r ≡ then (entriesBefore (now (image .entry)) (found .place) left) (λ _. given found) ⌝ }
 {
     match counted(image, found.place, left) {
-        Total::Given(_) => Lookup::Given(found),
-        Total::Refused(why) => Lookup::Refused(why),
+        LengthAnswer::Given(_) => GuidMatchAnswer::Given(found),
+        LengthAnswer::Refused(why) => GuidMatchAnswer::Refused(why),
     }
 }
 
 // Looks a GUID up in a table of this total. Each entry is checked as it is tested, so that the table is walked once.
-fn find_under(image: &[u8], total: u32, guid: Guid) -> Lookup
+fn find_under(image: &[u8], total: u32, guid: Guid) -> GuidMatchAnswer
     requires { ⌜ headerOf (now image) ≡ given total ⌝ }
-    ensures { λ r. ⌜ toldLookup r ≡ then (entriesUnder (now (image .entry)) total) (findIn guid) ⌝ }
+    ensures { λ r. ⌜ toldGuidMatch r ≡ then (entriesUnder (now (image .entry)) total) (findIn guid) ⌝ }
 {
-    let mut end = image.len() - 50;
-    let mut left = (total as usize) - 18;
+    let mut end = image.len() - Totals::SHORTEST;
+    let mut left = (total as usize) - GuidEntry::END;
     let mut before: u32 = 0;
     while 0 < left {
         match length_before(image, end, left) {
-            Total::Given(size) => {
+            LengthAnswer::Given(size) => {
                 let length = size as usize;
-                if has_guid(image, end - 16, guid) {
-                    let found = Match {
+                if has_guid(image, end - GuidEntry::END, guid) {
+                    let found = GuidMatch {
                         place: end - length,
-                        length: length - 18,
+                        length: length - GuidEntry::END,
                         tested: before + 1,
                     };
                     return checked_match(image, found, left - length);
@@ -221,46 +259,46 @@ fn find_under(image: &[u8], total: u32, guid: Guid) -> Lookup
                 left -= length;
                 before += 1;
             }
-            Total::Refused(why) => return Lookup::Refused(why),
+            LengthAnswer::Refused(why) => return GuidMatchAnswer::Refused(why),
         }
     }
-    Lookup::Absent(before)
+    GuidMatchAnswer::Absent(before)
 }
 
 // Looks a GUID up, nearest the footer first: its data's place and length, and the number of entries tested.
-pub fn find(image: &[u8], guid: Guid) -> Lookup
-    ensures { λ r. ⌜ toldLookup r ≡ findOf (now (image .entry)) guid ⌝ }
+pub fn find(image: &[u8], guid: Guid) -> GuidMatchAnswer
+    ensures { λ r. ⌜ toldGuidMatch r ≡ findOf (now (image .entry)) guid ⌝ }
 {
     match header(image) {
-        Total::Given(total) => find_under(image, total, guid),
-        Total::Refused(why) => Lookup::Refused(why),
+        LengthAnswer::Given(total) => find_under(image, total, guid),
+        LengthAnswer::Refused(why) => GuidMatchAnswer::Refused(why),
     }
 }
 
 // Entry i of a checked table, counted from the footer.
-fn entry_in(image: &[u8], t: Totals, i: usize) -> Read
+fn entry_in(image: &[u8], t: Totals, i: usize) -> GuidEntryAnswer
     requires { ⌜ tableOf (now image) ≡ given t ⌝ }
-    ensures { λ r. ⌜ toldEntry r ≡ entryOf (now (image .entry)) i ⌝ }
+    ensures { λ r. ⌜ toldGuidEntry r ≡ entryOf (now (image .entry)) i ⌝ }
 {
     if t.entries as usize <= i {
-        return Read::Refused(Refusal::ABSENT);
+        return GuidEntryAnswer::Refused(Refusal::ABSENT);
     }
-    let mut end = image.len() - 50;
+    let mut end = image.len() - Totals::SHORTEST;
     let mut before: usize = 0;
     while before < i {
         let entry = entry_before(image, end);
         end = entry.place;
         before += 1;
     }
-    Read::Given(entry_before(image, end))
+    GuidEntryAnswer::Given(entry_before(image, end))
 }
 
-// The entry at position i, counted from the footer.
-pub fn entry_at(image: &[u8], i: usize) -> Read
-    ensures { λ r. ⌜ toldEntry r ≡ entryOf (now (image .entry)) i ⌝ }
+// Entry i, counted from the footer.
+pub fn entry(image: &[u8], i: usize) -> GuidEntryAnswer
+    ensures { λ r. ⌜ toldGuidEntry r ≡ entryOf (now (image .entry)) i ⌝ }
 {
     match table(image) {
-        Checked::Given(t) => entry_in(image, t, i),
-        Checked::Refused(why) => Read::Refused(why),
+        TotalsAnswer::Given(t) => entry_in(image, t, i),
+        TotalsAnswer::Refused(why) => GuidEntryAnswer::Refused(why),
     }
 }

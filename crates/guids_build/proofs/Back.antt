@@ -9,16 +9,19 @@ use borrow.Author.Tests.{leb-true, le-leb, eqb-true}
 use lib.ListN.{length, take, drop, replicate, length-append, length-drop, length-replicate, replicate-append-replicate, take-append-drop}
 use lib.Dec.{leb, eqb}
 use lib.Seq.{append-snoc, drop-append-le, take-at, drop-at, length-take-le}
-use Rattle.le.specs.Le.{leBytes, putBytes, putAt, Bytes}
+use Rattle.le.specs.Le.{leBytes, putBytes, Bytes, bytesOf}
+use Rattle.le.specs.Field.{filled}
 use Rattle.le.proofs.Put.{put-some, length-leBytes}
 use Rattle.le.proofs.Back.{put-long, put-over}
 use Rattle.reply.specs.Reply.{Reply, given, then}
+use Rattle.reply.specs.Scan.{All}
 use Rattle.reply.proofs.ReplyLaws.{past, then-given, apart}
 use Rattle.guids.specs.declared.Guid.{Guid}
-use Rattle.guids.specs.declared.Entry.{Entry}
+use Rattle.guids.specs.declared.GuidEntry.{GuidEntry}
 use Rattle.guids.specs.declared.Totals.{Totals}
-use Rattle.guids.specs.Table.{guidBytes, footer, endBytes, entryBytes, totalAt, entriesOf, totalsOf, tableOf}
-use Rattle.guids_build.specs.Write.{startOf, startedBy, allZero, roomFor, extendOf, extendedBy}
+use Rattle.guids.specs.Ending as ending
+use Rattle.guids.specs.Table.{footer, footerAt, endBytes, entryBytes, totalAt, entriesOf, totalsOf, tableOf}
+use Rattle.guids_build.specs.Write.{startOf, startedBy, allZero, beginsAt, roomFor, extendOf, withTotal, extendedBy}
 use Rattle.guids.specs.Layout.{Item, itemsBytes, totalOf, imageOf, Sixteen, Whole, Laid, entriesAt, itemOf, itemsOf}
 use Rattle.guids_build.specs.Back.{started, StartGives, Extendable, ExtendAcceptance, ExtendAdds, extendAll, ItemsBack, cleared, SameAgain}
 use Rattle.guids.proofs.Walk.{listOf, good-table}
@@ -47,7 +50,7 @@ entries-far o (x ∷ xs) i =
     let rest = entries-far o xs i in
     λ j. record { guid = x .guid; place = place j; length = length (x .bytes) } ∷ rest j
 
-whole-far : (xs : List Item) (i : Item) → Whole xs → Sixteen (i .guid) → Whole (xs ++ i ∷ [])
+whole-far : (xs : List Item) (i : Item) → All Whole xs → Sixteen (i .guid) → All Whole (xs ++ i ∷ [])
 whole-far [] i w a = (a, tt)
 whole-far (x ∷ xs) i w a = (w .0, whole-far xs i (w .1) a)
 
@@ -55,13 +58,13 @@ whole-far (x ∷ xs) i w a = (w .0, whole-far xs i (w .1) a)
 start-laid : (s : List ℕ) → 50 ≤ length s → Laid (started s) []
 unfolding itemsBytes
 start-laid s h =
-    let behind : length s - 50 + 18 ≡ length s - 32 = omega arith in
+    let behind : footerAt s + 18 ≡ length s - 32 = omega arith in
     record {
-      front = take (length s - 50) s;
+      front = take (footerAt s) s;
       back = drop (length s - 32) s;
       is =
-          ap (startedBy s) (start-some s h) ∙ put-some (endBytes 18 footer) s (length s - 50) (omega (arith, length-end 18 footer))
-          ∙ rw (length-end 18 footer, behind) (append-assoc (take (length s - 50) s) (endBytes 18 footer) (drop (length s - 32) s));
+          ap (startedBy s) (start-some s h) ∙ put-some (endBytes 18 footer) s (footerAt s) (omega (arith, length-end 18 footer))
+          ∙ rw (length-end 18 footer, behind) (append-assoc (take (footerAt s) s) (endBytes 18 footer) (drop (length s - 32) s));
       behind = length-drop (length s - 32) s ∙ omega arith;
       small = omega arith;
       whole = tt;
@@ -90,26 +93,27 @@ module _ (s : List ℕ) (items : List Item) (l : Laid s items) (g : Guid) (bytes
 
   -- what it leaves, where as many bytes as it takes lie before the table
   extended-is : (front used : List ℕ) → l .front ≡ front ++ used → length used ≡ more → extendedBy s g bytes (given (totalOf items + more)) ≡ imageOf front further (l .back)
+  unfolding bytesOf
   extended-is front used before size =
       let total = totalOf items + more in
       let old = itemsBytes items in
       let entry = entryBytes g bytes in
-      let end = guidBytes footer ++ l .back in
+      let end = bytesOf (filled ending.low (footer .low) ∷ filled ending.high (footer .high) ∷ []) ++ l .back in
       let all : length s ≡ length (l .front) + (totalOf items + 32) = laid-length s items l in
       let first : length (l .front) ≡ length front + more = ap length before ∙ length-append front used ∙ ap (λ (k : ℕ). length front + k) size in
       let mid : length (l .front ++ old) ≡ length (l .front) + length old = length-append (l .front) old in
-      let one : putAt 2 total s (length s - 50) ≡ (l .front ++ old) ++ (leBytes 2 total ++ end) =
-      put-over s (l .front ++ old) end (length s - 50) (omega arith) (leBytes 2 total) (leBytes 2 (totalOf items)) (l .is ∙ simp append-assoc)
+      let one : withTotal s total ≡ (l .front ++ old) ++ (leBytes 2 total ++ end) =
+      put-over s (l .front ++ old) end (footerAt s + 0) (omega arith) (leBytes 2 total) (leBytes 2 (totalOf items)) (l .is ∙ simp append-assoc)
       (length-leBytes 2 (totalOf items) ∙ sym (length-leBytes 2 total)) in
-      let two : putBytes entry (putAt 2 total s (length s - 50)) (length s - 32 - total) ≡ front ++ (entry ++ (old ++ (leBytes 2 total ++ end))) =
-      put-over (putAt 2 total s (length s - 50)) front (old ++ (leBytes 2 total ++ end)) (length s - 32 - total) (omega arith) entry used (one ∙ rw before (simp append-assoc))
+      let two : putBytes entry (withTotal s total) (beginsAt s total) ≡ front ++ (entry ++ (old ++ (leBytes 2 total ++ end))) =
+      put-over (withTotal s total) front (old ++ (leBytes 2 total ++ end)) (beginsAt s total) (omega arith) entry used (one ∙ rw before (simp append-assoc))
       (size ∙ sym (length-entry g bytes)) in
       let new : totalOf further ≡ total = omega (arith, length-far items (record { guid = g; bytes = bytes })) in
       two ∙ rw (new, items-far items (record { guid = g; bytes = bytes })) (simp append-assoc)
 
   -- where it is accepted its entry lies at the far end, and the place of it is where the table now begins
   extend-laid : (total : ℕ) → Sixteen g → extendOf s bytes ≡ given total →
-      (after : Laid (extendedBy s g bytes (given total)) further) × (length (l .front) ≡ length (after .front) + more) × (length (after .front) ≡ length s - 32 - total)
+      (after : Laid (extendedBy s g bytes (given total)) further) × (length (l .front) ≡ length (after .front) + more) × (length (after .front) ≡ beginsAt s total)
   extend-laid total a h =
       let r = room-facts s bytes total h in
       let all : length s ≡ length (l .front) + (totalOf items + 32) = laid-length s items l in
@@ -146,16 +150,16 @@ extend-given s items l bytes front before small =
     let zeros : List ℕ = replicate more 0 in
     let all : length s ≡ length (l .front) + (totalOf items + 32) = laid-length s items l in
     let first : length (l .front) ≡ length front + more = ap length before ∙ length-append front zeros ∙ ap (λ (k : ℕ). length front + k) (length-replicate more 0) in
-    let from : length s - 32 - total ≡ length front = omega arith in
+    let from : beginsAt s total ≡ length front = omega arith in
     let rest = itemsBytes items ++ (endBytes (totalOf items) footer ++ l .back) in
     let is : s ≡ front ++ (zeros ++ rest) = l .is ∙ ap (λ (x : List ℕ). x ++ rest) before ∙ append-assoc front zeros rest in
-    let used : take more (drop (length s - 32 - total) s) ≡ zeros =
+    let used : take more (drop (beginsAt s total) s) ≡ zeros =
     rw from (ap (λ (x : List ℕ). take more (drop (length front) x)) is ∙ ap (take more) (drop-at front (zeros ++ rest) (length front) refl) ∙ take-at zeros rest more (length-replicate more 0)) in
     rw (laid-entries s items l, laid-total s items l)
     (simp (le-leb total 65_535 small, le-leb total (length s - 32) (omega arith), used, zeros-zero more))
 
 -- an image of bytes whose table is given is laid out
-module _ (s : List ℕ) (bytes : Bytes s) (es : List Entry) (h : entriesOf s ≡ given es) where
+module _ (s : List ℕ) (bytes : Bytes s) (es : List GuidEntry) (h : entriesOf s ≡ given es) where
   given-laid : Laid s (map (itemOf s) es)
   given-laid = items-laid s bytes (map (itemOf s) es) (rw h)
 
@@ -182,10 +186,10 @@ extend-only s bytes total b e =
     let all : length s ≡ length (l .front) + (totalOf items + 32) = laid-length s items l in
     let fits : total ≤ length s - 32 = r .fits in
     let from = length (l .front) - more in
-    let at : length s - 32 - total ≡ from = omega arith in
+    let at : beginsAt s total ≡ from = omega arith in
     let rest = itemsBytes items ++ (endBytes (totalOf items) footer ++ l .back) in
     let last : length (drop from (l .front)) ≡ more = length-drop from (l .front) ∙ omega arith in
-    let used : take more (drop (length s - 32 - total) s) ≡ drop from (l .front) =
+    let used : take more (drop (beginsAt s total) s) ≡ drop from (l .front) =
     rw at (ap (λ (x : List ℕ). take more (drop from x)) (l .is) ∙ ap (take more) (drop-append-le from (l .front) rest (omega arith)) ∙ take-at (drop from (l .front)) rest more last) in
     let free : drop from (l .front) ≡ replicate more 0 = zeros-are (drop from (l .front)) (ap allZero (sym used) ∙ r .zeros) ∙ ap (λ (k : ℕ). replicate k 0) last in
     record {
@@ -204,8 +208,8 @@ extend-acceptance = record {
 }
 
 module _ (s : List ℕ) (g : Guid) (bytes : List ℕ) (total : ℕ) where
-  more-entries : (others : List Entry) → Bytes s → Sixteen g → entriesOf s ≡ given others → extendOf s bytes ≡ given total →
-      entriesOf (extendedBy s g bytes (given total)) ≡ given (others ++ record { guid = g; place = length s - 32 - total; length = length bytes } ∷ [])
+  more-entries : (others : List GuidEntry) → Bytes s → Sixteen g → entriesOf s ≡ given others → extendOf s bytes ≡ given total →
+      entriesOf (extendedBy s g bytes (given total)) ≡ given (others ++ record { guid = g; place = beginsAt s total; length = length bytes } ∷ [])
   more-entries others b fit h e =
       let l = given-laid s b others h in
       let items = map (itemOf s) others in
@@ -230,14 +234,14 @@ module _ (s : List ℕ) (g : Guid) (bytes : List ℕ) (total : ℕ) where
       let all : totalAt (extendedBy s g bytes (given total)) ≡ total =
       laid-total _ _ (extend-laid s items l g bytes total fit e .0)
       ∙ omega (arith, length-far items (record { guid = g; bytes = bytes }), laid-total s items l, r .good .header .is, r .new) in
-      let one = length-append (listOf s) (record { guid = g; place = length s - 32 - total; length = length bytes } ∷ []) in
+      let one = length-append (listOf s) (record { guid = g; place = beginsAt s total; length = length bytes } ∷ []) in
       rw (more-entries (listOf s) b fit (f .entries) e, all, one, f .number) refl
 
 pub extend-adds : ExtendAdds
 extend-adds = record { entries = more-entries; items = more-items; table = more-table }
 
 -- any list of extends
-all-laid : (items : List Item) (s after : List ℕ) (old : List Item) → Laid s old → Whole items → extendAll s items ≡ given after → Laid after (old ++ items)
+all-laid : (items : List Item) (s after : List ℕ) (old : List Item) → Laid s old → All Whole items → extendAll s items ≡ given after → Laid after (old ++ items)
 unfolding extendAll
 all-laid [] s after old l w e = let p : s ≡ after = cc in rw append-nil (subst (λ (x : List ℕ). Laid x old) p l)
 all-laid (i ∷ items) s after old l w e =
@@ -252,7 +256,7 @@ items-back = record {
 }
 
 -- extends over zero bytes, one for each item, are all accepted
-over-zeros : (items : List Item) (s front back : List ℕ) (done : List Item) → s ≡ imageOf (front ++ replicate (length (itemsBytes items)) 0) done back → length back ≡ 32 → Whole done → Whole items →
+over-zeros : (items : List Item) (s front back : List ℕ) (done : List Item) → s ≡ imageOf (front ++ replicate (length (itemsBytes items)) 0) done back → length back ≡ 32 → All Whole done → All Whole items →
     length (itemsBytes items) + totalOf done ≤ 65_535 → extendAll s items ≡ given (imageOf front (done ++ items) back)
 unfolding extendAll itemsBytes
 over-zeros [] s front back done q b v w h = ap given (q ∙ rw (append-nil front, append-nil done))
@@ -283,8 +287,8 @@ module _ (s : List ℕ) (items : List Item) (l : Laid s items) where
       let zero : List ℕ = replicate size 0 in
       let first : length (l .front ++ zero) ≡ length (l .front) + size = length-append (l .front) zero ∙ ap (λ (k : ℕ). length (l .front) + k) (length-replicate size 0) in
       let clear : cleared s ≡ (l .front ++ zero) ++ (replicate 18 0 ++ l .back) =
-      ap (λ (k : ℕ). putBytes (replicate k 0) s (length s - 32 - k)) (laid-total s items l)
-      ∙ put-over s (l .front) (l .back) (length s - 32 - total) (omega arith) (replicate total 0) table (l .is ∙ simp append-assoc) (long ∙ sym (length-replicate total 0))
+      ap (λ (k : ℕ). putBytes (replicate k 0) s (beginsAt s k)) (laid-total s items l)
+      ∙ put-over s (l .front) (l .back) (beginsAt s total) (omega arith) (replicate total 0) table (l .is ∙ simp append-assoc) (long ∙ sym (length-replicate total 0))
       ∙ ap (λ (x : List ℕ). l .front ++ (x ++ l .back)) (sym (replicate-append-replicate size 18 0)) ∙ simp append-assoc in
       ap (startedBy (cleared s)) (start-some (cleared s) (omega arith))
       ∙ put-over (cleared s) (l .front ++ zero) (l .back) (length (cleared s) - 50) (omega arith) (endBytes 18 footer) (replicate 18 0) clear (sym (length-end 18 footer))
@@ -297,8 +301,8 @@ module _ (s : List ℕ) (items : List Item) (l : Laid s items) where
 clear-accepted : (s : List ℕ) (items : List Item) → itemsOf s ≡ given items → startOf (cleared s) ≡ given 18
 clear-accepted s items h =
     let e = then-given (entriesOf s) (λ entries. given (map (itemOf s) entries)) h in
-    let f = good-table s (record { total = totalAt s; entries = length (e .0) }) (ap (λ (r : Reply (List Entry)). then r (totalsOf s)) (e .1)) in
-    start-some (cleared s) (omega (arith, put-long (replicate (totalAt s) 0) s (length s - 32 - totalAt s), f .header .long))
+    let f = good-table s (record { total = totalAt s; entries = length (e .0) }) (ap (λ (r : Reply (List GuidEntry)). then r (totalsOf s)) (e .1)) in
+    start-some (cleared s) (omega (arith, put-long (replicate (totalAt s) 0) s (beginsAt s (totalAt s)), f .header .long))
 
 pub same-bytes : SameAgain
 same-bytes = record { start = clear-accepted; bytes = λ s items b h. same-again s items (items-laid s b items h) }

@@ -14,16 +14,17 @@ use Rattle.reply.specs.Reply.{given, refused, alone}
 use Rattle.reply.proofs.ReplyLaws.{past, then-given}
 use Rattle.guids.specs.declared.Guid.{Guid}
 use Rattle.guids.specs.declared.Totals.{Totals}
-use Rattle.guids.specs.Table.{endBytes, tableOf}
+use Rattle.guids.specs.Table.{endFields, endBytes, tableOf}
 use Rattle.guids_build.specs.Write.{startOf, allZero, roomFor, extendOf}
 use Rattle.guids.proofs.Walk.{Good, good-table}
-use Rattle.guids.proofs.Here.{numbers, end-is, length-end}
+use Rattle.guids.proofs.Here.{length-end}
 
 -- what the table and each entry end with, written one number behind the other
-pub put-end : (n : ℕ) (g : Guid) (s : List ℕ) (o : ℕ) → o + 18 ≤ length s → putAt 8 (g .high) (putAt 8 (g .low) (putAt 2 n s o) (o + 2)) (o + 10) ≡ putBytes (endBytes n g) s o
+pub put-end : (n : ℕ) (g : Guid) (s : List ℕ) (o : ℕ) → o + 18 ≤ length s → putAt 8 (g .high) (putAt 8 (g .low) (putAt 2 n s (o + 0)) (o + 2)) (o + 10) ≡ putBytes (endBytes n g) s o
 put-end n g s o h =
-    ap (putAt 8 (g .high) (putAt 8 (g .low) (putAt 2 n s o) (o + 2))) (omega arith)
-    ∙ puts-all (numbers n g) s o (rw (← end-is n g, length-end n g) h) ∙ ap (λ (x : List ℕ). putBytes x s o) (sym (end-is n g))
+    let first : o + 0 ≡ o = omega arith in
+    let third : o + 10 ≡ o + 2 + 8 = omega arith in
+    (λ j. putAt 8 (g .high) (putAt 8 (g .low) (putAt 2 n s (first j)) (o + 2)) (third j)) ∙ puts-all (endFields n g) s o (rw (length-end n g) h)
 
 pub start-none : (s : List ℕ) → length s < 50 → startOf s ≡ refused 12 alone
 unfolding startOf

@@ -9,5 +9,5 @@ pub extern "C" fn kpalumere_version(bytes: &[u8], words: &mut [u64]) -> u64
     ensures { λ r. ⌜ r ≡ numberLeft layNumber (versionOf (now (bytes .entry))) (now (words .entry)) ⌝ }
     ensures { λ _. ⌜ now (words .exit) ≡ wordsLeft layNumber (versionOf (now (bytes .entry))) (now (words .entry)) ⌝ }
 {
-    image_words::version(bytes, words)
+    flash_words::version(bytes, words)
 }

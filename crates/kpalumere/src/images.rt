@@ -1,63 +1,65 @@
 // Flash images: the EFS, the directory pointer, the directory of a level, its entries, where their bytes lie, and the lookups.
 ghost use mathlib.Core.Path.{_≡_};
 ghost use Rattle.lent.specs.Lent.{numberLeft, wordsLeft};
-ghost use Rattle.flash.specs.Flash.{base, flashEfs, flashPointer, flashDirectory, flashEntry, flashPart, flashFind};
+ghost use Rattle.efs.specs.Rules.{baseRules};
+ghost use Rattle.efs.specs.Efs.{flashEfs, flashPointer};
+ghost use Rattle.flash.specs.Flash.{flashDirectory, flashEntry, flashPart, flashFind};
 ghost use Rattle.repeats.specs.Repeats.{flashRepeats};
 ghost use Rattle.walk.specs.Walk.{findImage};
-ghost use Rattle.image_words.specs.Images.{layEfs, layPointer, layDirectory, layRepeat, layEntry, layPart, layMatch, layFound};
+ghost use Rattle.flash_words.specs.Images.{layEfs, layPointer, layDirectory, layRepeat, layEntry, layPart, layMatch, layImageMatch};
 
 // Three words: the EFS's place, and its pointers at 0x10 and at 0x14 as they stand.
 #[no_mangle]
 pub extern "C" fn kpalumere_efs(image: &[u8], words: &mut [u64]) -> u64
-    ensures { λ r. ⌜ r ≡ numberLeft layEfs (flashEfs base (now (image .entry))) (now (words .entry)) ⌝ }
-    ensures { λ _. ⌜ now (words .exit) ≡ wordsLeft layEfs (flashEfs base (now (image .entry))) (now (words .entry)) ⌝ }
+    ensures { λ r. ⌜ r ≡ numberLeft layEfs (flashEfs baseRules (now (image .entry))) (now (words .entry)) ⌝ }
+    ensures { λ _. ⌜ now (words .exit) ≡ wordsLeft layEfs (flashEfs baseRules (now (image .entry))) (now (words .entry)) ⌝ }
 {
-    image_words::efs(image, words)
+    flash_words::efs(image, words)
 }
 
 // Three words: the field of the EFS that holds the directory pointer, its value, and the place where it leads.
 #[no_mangle]
 pub extern "C" fn kpalumere_pointer(image: &[u8], words: &mut [u64]) -> u64
-    ensures { λ r. ⌜ r ≡ numberLeft layPointer (flashPointer base (now (image .entry))) (now (words .entry)) ⌝ }
-    ensures { λ _. ⌜ now (words .exit) ≡ wordsLeft layPointer (flashPointer base (now (image .entry))) (now (words .entry)) ⌝ }
+    ensures { λ r. ⌜ r ≡ numberLeft layPointer (flashPointer baseRules (now (image .entry))) (now (words .entry)) ⌝ }
+    ensures { λ _. ⌜ now (words .exit) ≡ wordsLeft layPointer (flashPointer baseRules (now (image .entry))) (now (words .entry)) ⌝ }
 {
-    image_words::pointer(image, words)
+    flash_words::pointer(image, words)
 }
 
 // Three words: the directory's place, level and total.
 #[no_mangle]
 pub extern "C" fn kpalumere_directory(image: &[u8], level: u32, words: &mut [u64]) -> u64
-    ensures { λ r. ⌜ r ≡ numberLeft layDirectory (flashDirectory base level (now (image .entry))) (now (words .entry)) ⌝ }
-    ensures { λ _. ⌜ now (words .exit) ≡ wordsLeft layDirectory (flashDirectory base level (now (image .entry))) (now (words .entry)) ⌝ }
+    ensures { λ r. ⌜ r ≡ numberLeft layDirectory (flashDirectory baseRules level (now (image .entry))) (now (words .entry)) ⌝ }
+    ensures { λ _. ⌜ now (words .exit) ≡ wordsLeft layDirectory (flashDirectory baseRules level (now (image .entry))) (now (words .entry)) ⌝ }
 {
-    image_words::directory(image, level, words)
+    flash_words::directory(image, level, words)
 }
 
 // Four words: of a directory that is refused since an entry repeats, that entry, the earlier one, and the type and subprogram of both.
 #[no_mangle]
 pub extern "C" fn kpalumere_repeated(image: &[u8], level: u32, words: &mut [u64]) -> u64
-    ensures { λ r. ⌜ r ≡ numberLeft layRepeat (flashRepeats base level (now (image .entry))) (now (words .entry)) ⌝ }
-    ensures { λ _. ⌜ now (words .exit) ≡ wordsLeft layRepeat (flashRepeats base level (now (image .entry))) (now (words .entry)) ⌝ }
+    ensures { λ r. ⌜ r ≡ numberLeft layRepeat (flashRepeats baseRules level (now (image .entry))) (now (words .entry)) ⌝ }
+    ensures { λ _. ⌜ now (words .exit) ≡ wordsLeft layRepeat (flashRepeats baseRules level (now (image .entry))) (now (words .entry)) ⌝ }
 {
-    image_words::repeated(image, level, words)
+    flash_words::repeated(image, level, words)
 }
 
 // Five words: the entry's type, subprogram, size, location and mode.
 #[no_mangle]
 pub extern "C" fn kpalumere_entry(image: &[u8], level: u32, index: u64, words: &mut [u64]) -> u64
-    ensures { λ r. ⌜ r ≡ numberLeft layEntry (flashEntry base level (now (image .entry)) index) (now (words .entry)) ⌝ }
-    ensures { λ _. ⌜ now (words .exit) ≡ wordsLeft layEntry (flashEntry base level (now (image .entry)) index) (now (words .entry)) ⌝ }
+    ensures { λ r. ⌜ r ≡ numberLeft layEntry (flashEntry baseRules level (now (image .entry)) index) (now (words .entry)) ⌝ }
+    ensures { λ _. ⌜ now (words .exit) ≡ wordsLeft layEntry (flashEntry baseRules level (now (image .entry)) index) (now (words .entry)) ⌝ }
 {
-    image_words::entry(image, level, index, words)
+    flash_words::entry(image, level, index, words)
 }
 
 // Two words: where the entry's bytes begin in the image, and how many they are.
 #[no_mangle]
 pub extern "C" fn kpalumere_part(image: &[u8], level: u32, index: u64, words: &mut [u64]) -> u64
-    ensures { λ r. ⌜ r ≡ numberLeft layPart (flashPart base level (now (image .entry)) index) (now (words .entry)) ⌝ }
-    ensures { λ _. ⌜ now (words .exit) ≡ wordsLeft layPart (flashPart base level (now (image .entry)) index) (now (words .entry)) ⌝ }
+    ensures { λ r. ⌜ r ≡ numberLeft layPart (flashPart baseRules level (now (image .entry)) index) (now (words .entry)) ⌝ }
+    ensures { λ _. ⌜ now (words .exit) ≡ wordsLeft layPart (flashPart baseRules level (now (image .entry)) index) (now (words .entry)) ⌝ }
 {
-    image_words::part(image, level, index, words)
+    flash_words::part(image, level, index, words)
 }
 
 // Two words: the match's index, and how many entries were tested; with an 8 one word, how many were tested.
@@ -69,17 +71,17 @@ pub extern "C" fn kpalumere_find(
     sub: u8,
     words: &mut [u64],
 ) -> u64
-    ensures { λ r. ⌜ r ≡ numberLeft layMatch (flashFind base level (now (image .entry)) class sub) (now (words .entry)) ⌝ }
-    ensures { λ _. ⌜ now (words .exit) ≡ wordsLeft layMatch (flashFind base level (now (image .entry)) class sub) (now (words .entry)) ⌝ }
+    ensures { λ r. ⌜ r ≡ numberLeft layMatch (flashFind baseRules level (now (image .entry)) class sub) (now (words .entry)) ⌝ }
+    ensures { λ _. ⌜ now (words .exit) ≡ wordsLeft layMatch (flashFind baseRules level (now (image .entry)) class sub) (now (words .entry)) ⌝ }
 {
-    image_words::find(image, level, class, sub, words)
+    flash_words::find(image, level, class, sub, words)
 }
 
 // Four words: the place and level of the match's directory, its index, and how many entries were tested; with an 8 one word, how many were tested.
 #[no_mangle]
 pub extern "C" fn kpalumere_find_image(image: &[u8], class: u8, sub: u8, words: &mut [u64]) -> u64
-    ensures { λ r. ⌜ r ≡ numberLeft layFound (findImage base (now (image .entry)) class sub) (now (words .entry)) ⌝ }
-    ensures { λ _. ⌜ now (words .exit) ≡ wordsLeft layFound (findImage base (now (image .entry)) class sub) (now (words .entry)) ⌝ }
+    ensures { λ r. ⌜ r ≡ numberLeft layImageMatch (findImage baseRules (now (image .entry)) class sub) (now (words .entry)) ⌝ }
+    ensures { λ _. ⌜ now (words .exit) ≡ wordsLeft layImageMatch (findImage baseRules (now (image .entry)) class sub) (now (words .entry)) ⌝ }
 {
-    image_words::find_image(image, class, sub, words)
+    flash_words::find_image(image, class, sub, words)
 }

@@ -1,4 +1,4 @@
-// The mailbox, in 88 lent words (their layout: mailbox_words, specs/Layout.antt). Words that are no mailbox's answer 5 and stay.
+// The mailbox, in 88 lent words (their layout: mailbox_layout, specs/Layout.antt). Words that are no mailbox's answer 5 and stay.
 ghost use mathlib.Core.Path.{_≡_};
 ghost use Rattle.lent.specs.Lent.{numberFor, wordsFor};
 ghost use Rattle.mailbox_words.specs.Calls.{freshWords, postOn, loadOn, turnOn, unloadOn, takeOn};
@@ -35,7 +35,7 @@ pub extern "C" fn kpalumere_load(words: &mut [u64], values: &mut [u64]) -> u64
     ensures { λ _. ⌜ now (words .exit) ≡ loadOn (now (words .entry)) (now (values .entry)) .words ⌝ }
     ensures { λ _. ⌜ now (values .exit) ≡ loadOn (now (words .entry)) (now (values .entry)) .values ⌝ }
 {
-    mailbox_words::load(words, values)
+    mailbox_steps_words::load(words, values)
 }
 
 // Runs the command in the register, and its response is there instead. One value: 1 yes, 0 no.
@@ -45,7 +45,7 @@ pub extern "C" fn kpalumere_turn(words: &mut [u64], values: &mut [u64]) -> u64
     ensures { λ _. ⌜ now (words .exit) ≡ turnOn (now (words .entry)) (now (values .entry)) .words ⌝ }
     ensures { λ _. ⌜ now (values .exit) ≡ turnOn (now (words .entry)) (now (values .entry)) .values ⌝ }
 {
-    mailbox_words::turn(words, values)
+    mailbox_turn_words::turn(words, values)
 }
 
 // Delivers the response in the register to its caller. One value: 1 yes, 0 no.
@@ -55,7 +55,7 @@ pub extern "C" fn kpalumere_unload(words: &mut [u64], values: &mut [u64]) -> u64
     ensures { λ _. ⌜ now (words .exit) ≡ unloadOn (now (words .entry)) (now (values .entry)) .words ⌝ }
     ensures { λ _. ⌜ now (values .exit) ≡ unloadOn (now (words .entry)) (now (values .entry)) .values ⌝ }
 {
-    mailbox_words::unload(words, values)
+    mailbox_steps_words::unload(words, values)
 }
 
 // Gives a caller its word, and frees its place. One value: the word.

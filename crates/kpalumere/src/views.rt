@@ -1,15 +1,16 @@
 // Views of a flash image's directories. A view crosses the boundary as the lent image and a place.
 ghost use mathlib.Core.Path.{_≡_};
 ghost use Rattle.lent.specs.Lent.{numberLeft, wordsLeft};
-ghost use Rattle.flash.specs.Flash.{base, flashDirectory};
+ghost use Rattle.efs.specs.Rules.{baseRules};
+ghost use Rattle.flash.specs.Flash.{flashDirectory};
 ghost use Rattle.place.specs.Place.{entryAt, partAt};
-ghost use Rattle.image_words.specs.Images.{layEntry, layPart, layPlace};
+ghost use Rattle.flash_words.specs.Images.{layEntry, layPart, layPlace};
 
 // One word: the place that a view of the directory of a level keeps.
 #[no_mangle]
 pub extern "C" fn kpalumere_view(image: &[u8], level: u32, words: &mut [u64]) -> u64
-    ensures { λ r. ⌜ r ≡ numberLeft layPlace (flashDirectory base level (now (image .entry))) (now (words .entry)) ⌝ }
-    ensures { λ _. ⌜ now (words .exit) ≡ wordsLeft layPlace (flashDirectory base level (now (image .entry))) (now (words .entry)) ⌝ }
+    ensures { λ r. ⌜ r ≡ numberLeft layPlace (flashDirectory baseRules level (now (image .entry))) (now (words .entry)) ⌝ }
+    ensures { λ _. ⌜ now (words .exit) ≡ wordsLeft layPlace (flashDirectory baseRules level (now (image .entry))) (now (words .entry)) ⌝ }
 {
     view_words::view(image, level, words)
 }
@@ -22,8 +23,8 @@ pub extern "C" fn kpalumere_view_entry(
     i: usize,
     words: &mut [u64],
 ) -> u64
-    ensures { λ r. ⌜ r ≡ numberLeft layEntry (entryAt base (now (image .entry)) place i) (now (words .entry)) ⌝ }
-    ensures { λ _. ⌜ now (words .exit) ≡ wordsLeft layEntry (entryAt base (now (image .entry)) place i) (now (words .entry)) ⌝ }
+    ensures { λ r. ⌜ r ≡ numberLeft layEntry (entryAt baseRules (now (image .entry)) place i) (now (words .entry)) ⌝ }
+    ensures { λ _. ⌜ now (words .exit) ≡ wordsLeft layEntry (entryAt baseRules (now (image .entry)) place i) (now (words .entry)) ⌝ }
 {
     view_words::entry(image, place, i, words)
 }
@@ -36,8 +37,8 @@ pub extern "C" fn kpalumere_view_part(
     i: usize,
     words: &mut [u64],
 ) -> u64
-    ensures { λ r. ⌜ r ≡ numberLeft layPart (partAt base (now (image .entry)) place i) (now (words .entry)) ⌝ }
-    ensures { λ _. ⌜ now (words .exit) ≡ wordsLeft layPart (partAt base (now (image .entry)) place i) (now (words .entry)) ⌝ }
+    ensures { λ r. ⌜ r ≡ numberLeft layPart (partAt baseRules (now (image .entry)) place i) (now (words .entry)) ⌝ }
+    ensures { λ _. ⌜ now (words .exit) ≡ wordsLeft layPart (partAt baseRules (now (image .entry)) place i) (now (words .entry)) ⌝ }
 {
     view_words::part(image, place, i, words)
 }

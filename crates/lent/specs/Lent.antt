@@ -12,36 +12,36 @@ numberOf (given a) = 0
 numberOf (refused number carried) = number
 
 -- a call's values: what it gives, laid out as words, or what its number carries
-abbrev pub valuesOf : {A : Type 0} → (A → List ℕ) → Reply A → List ℕ
+abbrev pub valuesOf : {A : Type 0} → (lay : A → List ℕ) → Reply A → List ℕ
 valuesOf lay (given a) = lay a
 valuesOf lay (refused number alone) = []
 valuesOf lay (refused number (tested count)) = count ∷ []
 
 -- the number answered, with values to be written: 12 where they do not fit the lent words
-unfoldable pub numberFor : ℕ → List ℕ → List ℕ → ℕ
+unfoldable pub numberFor : (number : ℕ) → (values words : List ℕ) → ℕ
 numberFor number values words = cond (leb (length values) (length words)) number 12
 
 -- the lent words after it: the values from the first word on and every other word kept, or all kept where they do not fit
-unfoldable pub wordsFor : List ℕ → List ℕ → List ℕ
+unfoldable pub wordsFor : (values words : List ℕ) → List ℕ
 wordsFor values words = cond (leb (length values) (length words)) (values ++ drop (length values) words) words
 
 -- the number and the words that a reply leaves
-abbrev pub numberLeft : {A : Type 0} → (A → List ℕ) → Reply A → List ℕ → ℕ
+abbrev pub numberLeft : {A : Type 0} → (lay : A → List ℕ) → Reply A → (words : List ℕ) → ℕ
 numberLeft lay reply words = numberFor (numberOf reply) (valuesOf lay reply) words
 
-abbrev pub wordsLeft : {A : Type 0} → (A → List ℕ) → Reply A → List ℕ → List ℕ
+abbrev pub wordsLeft : {A : Type 0} → (lay : A → List ℕ) → Reply A → (words : List ℕ) → List ℕ
 wordsLeft lay reply words = wordsFor (valuesOf lay reply) words
 
 -- the lent bytes that a call leaves which changes them by its reply: as they were where its values do not fit the lent words
-unfoldable pub bytesLeft : {A : Type 0} → (A → List ℕ) → Reply A → (Reply A → List ℕ) → List ℕ → List ℕ → List ℕ
+unfoldable pub bytesLeft : {A : Type 0} → (lay : A → List ℕ) → Reply A → (after : Reply A → List ℕ) → (before words : List ℕ) → List ℕ
 bytesLeft lay reply after before words = cond (leb (length (valuesOf lay reply)) (length words)) (after reply) before
 
 -- how a number is laid out: one word
-abbrev pub layNumber : ℕ → List ℕ
+abbrev pub layNumber : (n : ℕ) → List ℕ
 layNumber n = n ∷ []
 
 -- the words begin with these values
-unfoldable pub begins : List ℕ → List ℕ → Bool
+unfoldable pub begins : (values words : List ℕ) → Bool
 begins [] words = true
 begins (v ∷ values) [] = false
 begins (v ∷ values) (w ∷ words) = eqb w v && begins values words

@@ -14,13 +14,13 @@ use Rattle.mailbox.specs.declared.PlaceState.the-variants.{Free, Waiting
 use Rattle.mailbox.specs.declared.Post.{Post}
 use Rattle.mailbox.specs.declared.Mailbox.{Mailbox}
 use Rattle.mailbox.specs.Machine.{waiting, stateOf}
-use Rattle.mailbox.specs.Consistent.{fitPost, fitPosts, fitRegister, once, timesIn, inRegister, waits, fitCaller, allBelow, consistentOf}
+use Rattle.mailbox.specs.Consistent.{postFits, postsFit, registerFits, once, timesIn, registerHolds, waits, callerFits, allBelow, consistentOf}
 
 pub record Consistent (m : Mailbox) : Type 0 where
   pub short : m .count ≤ 8
-  pub posts : fitPosts (waiting m) ≡ true
-  pub register : fitRegister (m .register) ≡ true
-  pub callers : (c : ℕ) → c ≤ 7 → timesIn c (waiting m) + inRegister c (m .register) ≡ waits (stateOf m c)
+  pub posts : postsFit (waiting m) ≡ true
+  pub register : registerFits (m .register) ≡ true
+  pub callers : (c : ℕ) → c ≤ 7 → timesIn c (waiting m) + registerHolds c (m .register) ≡ waits (stateOf m c)
 
 pub both : (a b : Bool) → a && b ≡ true → (a ≡ true) × (b ≡ true)
 both true b e = (refl, e)
@@ -52,18 +52,18 @@ consistent-facts m e =
       short = leb-true _ _ (d .0);
       posts = d .1;
       register = b .1;
-      callers = λ c h. eqb-true _ _ (all-facts 8 (fitCaller (waiting m) (m .register) (m .places)) (a .1) c (omega arith));
+      callers = λ c h. eqb-true _ _ (all-facts 8 (callerFits (waiting m) (m .register) (m .places)) (a .1) c (omega arith));
     }
 
 pub consistent-test : (m : Mailbox) → Consistent m → consistentOf m ≡ true
 unfolding consistentOf
 consistent-test m k =
     rw (le-leb _ _ (k .short), k .posts, k .register)
-    (all-test 8 (fitCaller (waiting m) (m .register) (m .places)) (λ i h. eq-eqb _ _ (k .callers i (omega arith))))
+    (all-test 8 (callerFits (waiting m) (m .register) (m .places)) (λ i h. eq-eqb _ _ (k .callers i (omega arith))))
 
 -- the caller of a response in the register is 0 to 7
 pub response-low : (m : Mailbox) (c w : ℕ) → consistentOf m ≡ true → m .register ≡ Response c w → c < 8
-unfolding fitRegister
+unfolding registerFits
 response-low m c w e p = let h : c ≤ 7 = leb-true c 7 (rw p at (consistent-facts m e .register)) in omega arith
 
 -- ---- room: eight callers with one post each at most, and one of them with none
@@ -122,11 +122,11 @@ sum-lt (suc n) f k p e h = go (λ l. sum-lt n f k l e (λ c p. h c (omega arith)
         omega arith
 
 -- each post of the line is some caller's
-sum-times : (l : List Post) → fitPosts l ≡ true → sumBelow 8 (λ c. timesIn c l) ≡ length l
-unfolding timesIn fitPosts
+sum-times : (l : List Post) → postsFit l ≡ true → sumBelow 8 (λ c. timesIn c l) ≡ length l
+unfolding timesIn postsFit
 sum-times [] e = sum-zero 8
 sum-times (p ∷ l) e =
-    let a = both (fitPost p) (fitPosts l) e in
+    let a = both (postFits p) (postsFit l) e in
     let b = both (leb (p .caller) 7) (leb (p .command) 0x3FF) (a .0) in
     let h : p .caller ≤ 7 = leb-true _ _ (b .0) in
     let s = sum-one 8 (p .caller) (omega arith) in

@@ -1,5 +1,3 @@
 pub mod ConsistentLaws
 pub mod LineLaws
 pub mod Facts
-pub mod CallLaws
-pub mod Settled

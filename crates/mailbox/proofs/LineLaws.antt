@@ -6,8 +6,10 @@ use native.Mathlib.Omega.{arith}
 use native.Mathlib.Numerals.{add-one}
 use lib.ListN.{length, getD, take, set, length-append, length-drop, drop-of-length-le}
 use lib.Seq.{take-append-le, take-suc-set, drop-cons}
+use Rattle.firmware.specs.Rules.{freshFirmware}
+use Rattle.firmware.specs.declared.Firmware.{Firmware}
 use Rattle.mailbox.specs.declared.Post.{Post}
-use Rattle.mailbox.specs.Machine.{noPost, shifted}
+use Rattle.mailbox.specs.Machine.{noPost, shifted, mailboxBefore, freshMailbox}
 
 -- ---- `shift`: the seven posts behind the first, and an empty slot
 pub shift-is : (l : List Post) → length l ≡ 8
@@ -41,3 +43,7 @@ line-first (a ∷ l) (suc n) h z =
 -- ---- one more at the end
 pub line-last : (l : List Post) (n : ℕ) (p : Post) → n < length l → take (n + 1) (set l n p) ≡ take n l ++ (p ∷ [])
 line-last l n p h = rw add-one (take-suc-set l n p h)
+
+-- ---- the fresh mailbox
+pub fresh-is : (f : Firmware) → f ≡ freshFirmware → mailboxBefore f ≡ freshMailbox
+fresh-is f e = rw e

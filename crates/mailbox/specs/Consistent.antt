@@ -14,34 +14,34 @@ use Rattle.mailbox.specs.declared.Mailbox.{Mailbox}
 use Rattle.mailbox.specs.Machine.{waiting, stateAt}
 
 -- ---- callers up to 7, and commands up to 0x3FF
-abbrev pub fitPost : Post → Bool
-fitPost p = leb (p .caller) 7 && leb (p .command) 0x3FF
+abbrev pub postFits : Post → Bool
+postFits p = leb (p .caller) 7 && leb (p .command) 0x3FF
 
-unfoldable pub fitPosts : List Post → Bool
-fitPosts [] = true
-fitPosts (p ∷ l) = fitPost p && fitPosts l
+unfoldable pub postsFit : (line : List Post) → Bool
+postsFit [] = true
+postsFit (p ∷ l) = postFits p && postsFit l
 
 -- a command word with any of bits 31:26 set holds a command above 0x3FF; a response is any word
-unfoldable pub fitRegister : Phase → Bool
-fitRegister Idle = true
-fitRegister (Command caller word) = leb caller 7 && leb (word / 0x1_0000) 0x3FF
-fitRegister (Response caller word) = leb caller 7
+unfoldable pub registerFits : Phase → Bool
+registerFits Idle = true
+registerFits (Command caller word) = leb caller 7 && leb (word / 0x1_0000) 0x3FF
+registerFits (Response caller word) = leb caller 7
 
 -- ---- each caller's post found once
 -- 1 where it holds, else 0
-abbrev pub once : Bool → ℕ
+abbrev pub once : (b : Bool) → ℕ
 once b = cond b 1 0
 
 -- how many posts of a line are the caller's
-unfoldable pub timesIn : ℕ → List Post → ℕ
+unfoldable pub timesIn : (caller : ℕ) (line : List Post) → ℕ
 timesIn caller [] = 0
 timesIn caller (p ∷ l) = once (eqb (p .caller) caller) + timesIn caller l
 
 -- how often the caller's post is in the register
-unfoldable pub inRegister : ℕ → Phase → ℕ
-inRegister caller Idle = 0
-inRegister caller (Command holder word) = once (eqb holder caller)
-inRegister caller (Response holder word) = once (eqb holder caller)
+unfoldable pub registerHolds : (caller : ℕ) → Phase → ℕ
+registerHolds caller Idle = 0
+registerHolds caller (Command holder word) = once (eqb holder caller)
+registerHolds caller (Response holder word) = once (eqb holder caller)
 
 -- how often the place says that the caller's post is in line or register
 abbrev pub waits : PlaceState → ℕ
@@ -49,11 +49,11 @@ waits Free = 0
 waits Waiting = 1
 waits (Ready word) = 0
 
-abbrev pub fitCaller : List Post → Phase → List Place → ℕ → Bool
-fitCaller posts register places caller = eqb (timesIn caller posts + inRegister caller register) (waits (stateAt places caller))
+abbrev pub callerFits : (posts : List Post) (register : Phase) (places : List Place) (caller : ℕ) → Bool
+callerFits posts register places caller = eqb (timesIn caller posts + registerHolds caller register) (waits (stateAt places caller))
 
 -- a test that holds of every number below n
-unfoldable pub allBelow : ℕ → (ℕ → Bool) → Bool
+unfoldable pub allBelow : (n : ℕ) (test : ℕ → Bool) → Bool
 allBelow zero test = true
 allBelow (suc n) test = test n && allBelow n test
 
@@ -61,6 +61,6 @@ allBelow (suc n) test = test n && allBelow n test
 unfoldable pub consistentOf : Mailbox → Bool
 consistentOf m =
     leb (m .count) 8
-    && fitPosts (waiting m)
-    && fitRegister (m .register)
-    && allBelow 8 (fitCaller (waiting m) (m .register) (m .places))
+    && postsFit (waiting m)
+    && registerFits (m .register)
+    && allBelow 8 (callerFits (waiting m) (m .register) (m .places))

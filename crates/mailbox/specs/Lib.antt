@@ -1,4 +1,2 @@
 pub mod Machine
 pub mod Consistent
-pub mod Calls
-pub mod Settled

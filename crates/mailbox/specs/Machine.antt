@@ -30,14 +30,14 @@ abbrev pub waiting : Mailbox → List Post
 waiting m = take (m .count) (m .line)
 
 -- ---- places
-abbrev pub placed : PlaceState → Place
-placed state = record { state = state }
+abbrev pub placeWith : PlaceState → Place
+placeWith state = record { state = state }
 
 -- what stands in a caller's place
-abbrev pub stateAt : List Place → ℕ → PlaceState
-stateAt places caller = getD places caller (placed Free) .state
+abbrev pub stateAt : (places : List Place) (caller : ℕ) → PlaceState
+stateAt places caller = getD places caller (placeWith Free) .state
 
-abbrev pub stateOf : Mailbox → ℕ → PlaceState
+abbrev pub stateOf : Mailbox → (caller : ℕ) → PlaceState
 stateOf m caller = stateAt (m .places) caller
 
 -- the caller has no untaken post
@@ -49,7 +49,7 @@ isFree (Ready word) = false
 -- ---- the fresh mailbox
 -- nothing in line, register and places, before this firmware
 abbrev pub mailboxBefore : Firmware → Mailbox
-mailboxBefore f = record { register = Idle; count = 0; line = replicate 8 noPost; places = replicate 8 (placed Free); firmware = f }
+mailboxBefore f = record { register = Idle; count = 0; line = replicate 8 noPost; places = replicate 8 (placeWith Free); firmware = f }
 
 abbrev pub freshMailbox : Mailbox
 freshMailbox = mailboxBefore freshFirmware
@@ -61,12 +61,12 @@ joined m caller command d = record {
   register = m .register;
   count = m .count + 1;
   line = set (m .line) (m .count) (postBy caller command d);
-  places = set (m .places) caller (placed Waiting);
+  places = set (m .places) caller (placeWith Waiting);
   firmware = m .firmware;
 }
 
 -- the line without its oldest post
-unfoldable pub shifted : List Post → List Post
+unfoldable pub shifted : (line : List Post) → List Post
 shifted line = drop 1 line ++ (noPost ∷ [])
 
 -- the register holds the command of the oldest post
@@ -90,12 +90,12 @@ withResponse m caller word = record {
 }
 
 -- the word is ready in its caller's place, and the register is idle
-abbrev pub delivered : Mailbox → (caller word : ℕ) → Mailbox
-delivered m caller word = record {
+abbrev pub handedOver : Mailbox → (caller word : ℕ) → Mailbox
+handedOver m caller word = record {
   register = Idle;
   count = m .count;
   line = m .line;
-  places = set (m .places) caller (placed (Ready word));
+  places = set (m .places) caller (placeWith (Ready word));
   firmware = m .firmware;
 }
 
@@ -105,6 +105,6 @@ freed m caller = record {
   register = m .register;
   count = m .count;
   line = m .line;
-  places = set (m .places) caller (placed Free);
+  places = set (m .places) caller (placeWith Free);
   firmware = m .firmware;
 }

@@ -17,12 +17,12 @@ use Rattle.mailbox.specs.declared.PlaceState.{PlaceState}
 use Rattle.mailbox.specs.declared.PlaceState.the-variants.{Free, Waiting, Ready}
 use Rattle.mailbox.specs.declared.Post.{Post}
 use Rattle.mailbox.specs.declared.Mailbox.{Mailbox}
-use Rattle.mailbox.specs.Machine.{noPost, placed}
-use Rattle.mailbox_words.specs.Layout.{upTo, bitOf, kindWord, callerWord, wordWord, partWord, postWord, stateWord, placeWord, savedWord, interruptWord, headOf, wordIn, packOf}
-use Rattle.mailbox_words.specs.Layout.{phaseFrom, partFrom, postFrom, stateFrom, placeFrom, savedFrom, interruptFrom, postAt, placeAt, interruptAt, firmwareFrom, unpackOf}
+use Rattle.mailbox.specs.Machine.{noPost, placeWith}
+use Rattle.mailbox_layout.specs.Layout.{upTo, bitOf, phaseWord, callerWord, wordWord, partWord, postWord, stateWord, placeWord, savedWord, interruptWord, headOf, packOf}
+use Rattle.mailbox_layout.specs.Layout.{phaseFrom, partFrom, postFrom, stateFrom, placeFrom, savedFrom, interruptFrom, postAt, placeAt, interruptAt, firmwareFrom, unpackOf}
 use Rattle.mailbox_runs.specs.Typed.{TypedPart, TypedDescriptor, TypedInterrupt, TypedPost, TypedState, TypedPlace, TypedPhase, Typed}
-use Rattle.mailbox_words.proofs.LayoutLaws.{length-upTo, getD-upTo, up-all, word-head, word-post, word-place, word-interrupt}
-use Rattle.mailbox_runs.proofs.TypedLaws.{every-at}
+use Rattle.mailbox_layout.proofs.LayoutLaws.{up-all, pack-long, pack-head, pack-post, pack-place, pack-interrupt}
+use Rattle.mailbox_runs.proofs.TypedLaws.{all-at, whole}
 
 -- ---- one word and what it says
 bit-back : (b : Bool) (x : ℕ) → x ≡ bitOf b → eqb x 1 ≡ b
@@ -66,7 +66,7 @@ state-back (Ready w) fits =
     let rest : (0x2_0000_0000 + w) % 0x1_0000_0000 ≡ w = omega arith in
     rw (two, rest)
 
-phase-back : (p : Phase) → TypedPhase p → phaseFrom (kindWord p) (callerWord p) (wordWord p) ≡ p
+phase-back : (p : Phase) → TypedPhase p → phaseFrom (phaseWord p) (callerWord p) (wordWord p) ≡ p
 phase-back Idle fits = refl
 phase-back (Command c w) fits =
     let a : c % 0x1_0000_0000 ≡ c = let h : c < 0x1_0000_0000 = fits .0 in omega arith in
@@ -100,34 +100,30 @@ module _ (m : Mailbox) (k : Typed m) (behind : List ℕ) where
   abbrev ws : List ℕ
   ws = packOf m ++ behind
 
-  abbrev word : ℕ → ℕ
-  word = wordIn (headOf m) (m .line) (m .places) (m .firmware .interrupts)
-
-  word-of : (i : ℕ) → i < 88 → getD ws i 0 ≡ word i
-  unfolding packOf
-  word-of i p = let long = length-upTo word 88 in List·getD-append (upTo word 88) behind 0 i (omega arith) ∙ getD-upTo word 0 88 i p
+  word-of : (i : ℕ) → i < 88 → getD ws i 0 ≡ getD (packOf m) i 0
+  word-of i p = let long = pack-long m (whole m k) in List·getD-append (packOf m) behind 0 i (omega arith)
 
   head-of : (i : ℕ) → i < 8 → getD ws i 0 ≡ getD (headOf m) i 0
-  head-of i p = word-of i (omega arith) ∙ sym (word-head _ _ _ _ i p)
+  head-of i p = word-of i (omega arith) ∙ pack-head m (whole m k) i p
 
   line-back : (i : ℕ) → i < 8 → postAt ws i ≡ getD (m .line) i noPost
   line-back i p =
       let e : 8 + i - 8 ≡ i = omega arith in
-      let w = word-of (8 + i) (omega arith) ∙ (sym (word-post _ _ _ _ (8 + i) _ refl (omega arith) (omega arith)) ∙ ap (λ (j : ℕ). postWord (getD (m .line) j noPost)) e) in
-      ap postFrom w ∙ post-back (getD (m .line) i noPost) (every-at TypedPost (m .line) i noPost (k .line) (omega arith, omega arith, omega arith))
+      let w = word-of (8 + i) (omega arith) ∙ (pack-post m (whole m k) (8 + i) (omega arith) (omega arith) ∙ ap (λ (j : ℕ). postWord (getD (m .line) j noPost)) e) in
+      ap postFrom w ∙ post-back (getD (m .line) i noPost) (all-at TypedPost (m .line) i noPost (k .line) (omega arith, omega arith, omega arith))
 
-  places-back : (i : ℕ) → i < 8 → placeAt ws i ≡ getD (m .places) i (placed Free)
+  places-back : (i : ℕ) → i < 8 → placeAt ws i ≡ getD (m .places) i (placeWith Free)
   places-back i p =
       let e : 16 + i - 16 ≡ i = omega arith in
-      let w = word-of (16 + i) (omega arith) ∙ (sym (word-place _ _ _ _ (16 + i) _ refl (omega arith) (omega arith) (omega arith)) ∙ ap (λ (j : ℕ). placeWord (getD (m .places) j (placed Free))) e) in
-      ap placeFrom w ∙ ap placed (state-back (getD (m .places) i (placed Free) .state) (every-at TypedPlace (m .places) i (placed Free) (k .places) tt))
+      let w = word-of (16 + i) (omega arith) ∙ (pack-place m (whole m k) (16 + i) (omega arith) (omega arith) ∙ ap (λ (j : ℕ). placeWord (getD (m .places) j (placeWith Free))) e) in
+      ap placeFrom w ∙ ap placeWith (state-back (getD (m .places) i (placeWith Free) .state) (all-at TypedPlace (m .places) i (placeWith Free) (k .places) tt))
 
   interrupts-back : (i : ℕ) → i < 64 → interruptAt ws i ≡ getD (m .firmware .interrupts) i nothing
   interrupts-back i p =
       let e : 24 + i - 24 ≡ i = omega arith in
       let x = getD (m .firmware .interrupts) i nothing in
-      let w = word-of (24 + i) (omega arith) ∙ (sym (word-interrupt _ _ _ _ (24 + i) _ refl (omega arith) (omega arith) (omega arith)) ∙ ap (λ (j : ℕ). interruptWord (getD (m .firmware .interrupts) j nothing)) e) in
-      let saved : savedFrom (interruptWord x) ≡ x .descriptor = saved-back (x .delivery) (x .descriptor) (every-at TypedInterrupt (m .firmware .interrupts) i nothing (k .firmware .interrupts) tt) in
+      let w = word-of (24 + i) (omega arith) ∙ (pack-interrupt m (whole m k) (24 + i) (omega arith) ∙ ap (λ (j : ℕ). interruptWord (getD (m .firmware .interrupts) j nothing)) e) in
+      let saved : savedFrom (interruptWord x) ≡ x .descriptor = saved-back (x .delivery) (x .descriptor) (all-at TypedInterrupt (m .firmware .interrupts) i nothing (k .firmware .interrupts) tt) in
       let on : eqb (interruptWord x / 2 % 2) 1 ≡ x .delivery = delivery-back (x .delivery) (x .descriptor) in
       ap interruptFrom w ∙ (λ j. record { descriptor = saved j; delivery = on j })
 
@@ -151,6 +147,6 @@ module _ (m : Mailbox) (k : Typed m) (behind : List ℕ) where
       let register : phaseFrom (getD ws 0 0) (getD ws 1 0) (getD ws 2 0) ≡ m .register = rw (t, c, w) (phase-back (m .register) (k .register)) in
       let count : getD ws 3 0 ≡ m .count = head-of 3 (omega arith) in
       let line : upTo (postAt ws) 8 ≡ m .line = up-all (postAt ws) (m .line) noPost 8 (k .line-long) line-back in
-      let places : upTo (placeAt ws) 8 ≡ m .places = up-all (placeAt ws) (m .places) (placed Free) 8 (k .places-long) places-back in
+      let places : upTo (placeAt ws) 8 ≡ m .places = up-all (placeAt ws) (m .places) (placeWith Free) 8 (k .places-long) places-back in
       let firmware = firmware-back in
       λ j. record { register = register j; count = count j; line = line j; places = places j; firmware = firmware j }

@@ -15,20 +15,21 @@ use Rattle.lent.proofs.Begins.{begins-front}
 use Rattle.mailbox.specs.declared.Mailbox.{Mailbox}
 use Rattle.mailbox.specs.Machine.{stateOf, isFree, joined}
 use Rattle.mailbox.specs.Consistent.{consistentOf}
-use Rattle.mailbox.specs.Calls.{After, after, leaves, accepted, loadedFrom, turnedFrom, unloadedFrom, takenFrom, postOf, loadOf, turnOf, unloadOf, takeOf}
-use Rattle.mailbox_words.specs.Layout.{packOf}
-use Rattle.mailbox_words.specs.Calls.{layAccepted, layActed, layWord, heldIn, Left, leftWith, leftBy, callOn, postOn, loadOn, turnOn, unloadOn, takeOn}
+use Rattle.mailbox_calls.specs.Calls.{After, after, leaves, accepted, loadedFrom, turnedFrom, unloadedFrom, takenFrom, postOf, loadOf, turnOf, unloadOf, takeOf}
+use Rattle.mailbox_layout.specs.Layout.{packOf}
+use Rattle.mailbox_words.specs.Calls.{layAccepted, layActed, layWord, Left, leftWith, leftBy, callOn, postOn, loadOn, turnOn, unloadOn, takeOn}
+use Rattle.mailbox_held.specs.Held.{heldIn}
 use Rattle.mailbox_runs.specs.Typed.{Typed}
 use Rattle.mailbox_runs.specs.Faithful.{Room, valuesAfter, Through, AllFaithful}
-use Rattle.mailbox_words.proofs.LayoutLaws.{length-pack}
-use Rattle.mailbox_runs.proofs.TypedLaws.{fresh-typed, post-typed, load-typed, turn-typed, unload-typed, take-typed}
+use Rattle.mailbox_layout.proofs.LayoutLaws.{Whole, pack-long}
+use Rattle.mailbox_runs.proofs.TypedLaws.{whole, fresh-typed, post-typed, load-typed, turn-typed, unload-typed, take-typed}
 use Rattle.mailbox_runs.proofs.Back.{back}
 
 -- a mailbox's words after a mailbox's words
-front-packed : (m n : Mailbox) (behind : List ℕ) → wordsFor (packOf n) (packOf m ++ behind) ≡ packOf n ++ behind
-front-packed m n behind =
-    let a = length-pack m in
-    let b = length-pack n in
+front-packed : (m n : Mailbox) (behind : List ℕ) → Whole m → Whole n → wordsFor (packOf n) (packOf m ++ behind) ≡ packOf n ++ behind
+front-packed m n behind v w =
+    let a = pack-long m v in
+    let b = pack-long n w in
     let l = length-append (packOf m) behind in
     let e : length (packOf n) ≡ length (packOf m) = omega arith in
     sym (words-fits (packOf n) (packOf m ++ behind) (omega arith)) ∙ ap (λ t. packOf n ++ t) (ap (λ j. drop j (packOf m ++ behind)) e ∙ drop-append-seam (packOf m) behind)
@@ -47,10 +48,10 @@ module _ {A : Type 0} (lay : A → List ℕ) (call : Mailbox → After (Reply A)
   number-of (given a) behind values room = rw (le-leb _ _ room)
   number-of (refused number carried) behind values room = refl
 
-  words-of : (y : Reply (After A)) (behind values : List ℕ) → Room lay (leaves m y .answer) values → leftBy lay (leaves m y .mailbox) (leaves m y .answer) (packOf m ++ behind) values .words ≡ packOf (leaves m y .mailbox) ++ behind
+  words-of : (y : Reply (After A)) → Typed (leaves m y .mailbox) → (behind values : List ℕ) → Room lay (leaves m y .answer) values → leftBy lay (leaves m y .mailbox) (leaves m y .answer) (packOf m ++ behind) values .words ≡ packOf (leaves m y .mailbox) ++ behind
   unfolding leftWith
-  words-of (given a) behind values room = rw (le-leb _ _ room) (front-packed m (a .mailbox) behind)
-  words-of (refused number carried) behind values room = refl
+  words-of (given a) t behind values room = rw (le-leb _ _ room) (front-packed m (a .mailbox) behind (whole m k) (whole (a .mailbox) t))
+  words-of (refused number carried) t behind values room = refl
 
   values-of : (y : Reply (After A)) (behind values : List ℕ) → Room lay (leaves m y .answer) values → leftBy lay (leaves m y .mailbox) (leaves m y .answer) (packOf m ++ behind) values .values ≡ valuesAfter lay (leaves m y .answer) values
   unfolding leftWith
@@ -62,7 +63,7 @@ module _ {A : Type 0} (lay : A → List ℕ) (call : Mailbox → After (Reply A)
       subst (λ (a : After (Reply A)). Typed (a .mailbox) → Through lay a (callOn lay call) m) (sym is)
       (λ t. record {
         number = λ behind values room. ap (λ (l : Left). l .number) (on behind values) ∙ number-of x behind values room;
-        words = λ behind values room. ap (λ (l : Left). l .words) (on behind values) ∙ words-of x behind values room;
+        words = λ behind values room. ap (λ (l : Left). l .words) (on behind values) ∙ words-of x t behind values room;
         values = λ behind values room. ap (λ (l : Left). l .values) (on behind values) ∙ values-of x behind values room;
         typed = t;
       }) typed
@@ -94,5 +95,5 @@ module _ (m : Mailbox) (k : Typed m) where
 pub all-faithful : AllFaithful
 all-faithful = record {
   fresh = fresh-typed;
-  all = λ m k. record { back = back m k; post-through = post-through m k; load-through = load-through m k; turn-through = turn-through m k; unload-through = unload-through m k; take-through = take-through m k };
+  all = λ m k. record { long = pack-long m (whole m k); back = back m k; post-through = post-through m k; load-through = load-through m k; turn-through = turn-through m k; unload-through = unload-through m k; take-through = take-through m k };
 }

@@ -8,12 +8,13 @@ use Rattle.reply.specs.Reply.{Reply, given, refused}
 use Rattle.lent.specs.Lent.{numberOf}
 use Rattle.mailbox.specs.declared.Mailbox.{Mailbox}
 use Rattle.mailbox.specs.Machine.{freshMailbox}
-use Rattle.mailbox.specs.Calls.{After, Accepted, postOf, loadOf, turnOf, unloadOf, takeOf}
-use Rattle.demand3.specs.Calls.{Call, post, load, turn, unload, take-word, callOf, numberIn}
-use Rattle.demand3.specs.Log.{Run, from, stepped, played}
-use Rattle.mailbox_words.specs.Layout.{packOf}
+use Rattle.mailbox_calls.specs.Calls.{After, Accepted, postOf, loadOf, turnOf, unloadOf, takeOf}
+use Rattle.mailbox_demand3.specs.Calls.{Call, post, load, turn, unload, take-word, callOf, numberIn}
+use Rattle.mailbox_demand3.specs.Log.{Run, from, stepped, played}
+use Rattle.mailbox_layout.specs.Layout.{packOf}
 use Rattle.mailbox_words.specs.Calls.{layAccepted, layActed, layWord, Left}
-use Rattle.mailbox_runs.specs.Typed.{Every, Typed}
+use Rattle.reply.specs.Scan.{All}
+use Rattle.mailbox_runs.specs.Typed.{Typed}
 use Rattle.mailbox_runs.specs.Faithful.{Room, valuesAfter, Through}
 use Rattle.mailbox_runs.specs.Runs.{onWords, playedOn, valueSeen, Sixteen, SameRuns}
 use Rattle.mailbox_runs.proofs.Faithful.{all-faithful}
@@ -72,7 +73,7 @@ module _ (m : Mailbox) (k : Typed m) (v : ℕ) where
       record { number = b .0; words = b .1; values = b .2; typed = t .typed }
 
 -- the words after a list of calls, and that the mailbox is a typed one
-ends : (calls : List Call) (r : Run) → Typed (r .mailbox) → Every Sixteen calls
+ends : (calls : List Call) (r : Run) → Typed (r .mailbox) → All Sixteen calls
     → (playedOn (packOf (r .mailbox)) calls ≡ packOf (played callOf r calls .mailbox)) × Typed (played callOf r calls .mailbox)
 unfolding playedOn played
 ends [] r k s = (refl, k)

@@ -1,4 +1,4 @@
--- Every call leads from a typed mailbox to a typed one. Assumes nothing.
+-- All call leads from a typed mailbox to a typed one. Assumes nothing.
 use mathlib.Core.Bool.{Bool, true, false, cond, not}
 use mathlib.Core.List.{List, [], _∷_, _++_}
 use mathlib.Core.Path.{_≡_, refl, _∙_}
@@ -8,6 +8,7 @@ use lib.ListN.{length, getD, set, drop, replicate, length-set}
 use lib.Dec.{eqb, leb}
 use borrow.Author.Tests.{leb-true}
 use Rattle.reply.specs.Reply.{Reply, guard}
+use Rattle.reply.specs.Scan.{All}
 use Rattle.firmware.specs.Word.{commandIn, dataIn, wordOf}
 use Rattle.firmware.specs.Rules.{nothing, answers, interfaceOff, idIn, keptFor, holding, settledOf, whenSaved, delivering, deliveryOf, ruleOf, runOf}
 use Rattle.firmware.proofs.Responses.{either}
@@ -22,35 +23,36 @@ use Rattle.mailbox.specs.declared.Phase.the-variants.{Idle, Command, Response}
 use Rattle.mailbox.specs.declared.PlaceState.{PlaceState}
 use Rattle.mailbox.specs.declared.PlaceState.the-variants.{Free, Waiting, Ready}
 use Rattle.mailbox.specs.declared.Mailbox.{Mailbox}
-use Rattle.mailbox.specs.Machine.{postBy, noPost, placed, stateOf, isFree, freshMailbox, joined, shifted, withOldest, freed}
+use Rattle.mailbox.specs.Machine.{postBy, noPost, placeWith, stateOf, isFree, freshMailbox, joined, shifted, withOldest, freed}
 use Rattle.mailbox.specs.Consistent.{consistentOf}
-use Rattle.mailbox.specs.Calls.{After, after, leaves, loadedFrom, loadOf, turnedFrom, turnOf, unloadedFrom, unloadOf, takenFrom, takeOf, postOf}
+use Rattle.mailbox_calls.specs.Calls.{After, after, leaves, loadedFrom, loadOf, turnedFrom, turnOf, unloadedFrom, unloadOf, takenFrom, takeOf, postOf}
 use Rattle.mailbox.proofs.LineLaws.{shifted-long}
-use Rattle.mailbox_runs.specs.Typed.{Every, TypedPart, TypedInterrupt, TypedFirmware, TypedPost, TypedState, TypedPlace, TypedPhase, Typed}
+use Rattle.mailbox_layout.proofs.LayoutLaws.{Whole}
+use Rattle.mailbox_runs.specs.Typed.{TypedPart, TypedInterrupt, TypedFirmware, TypedPost, TypedState, TypedPlace, TypedPhase, Typed}
 
--- ---- every element
+-- ---- all of a list
 module _ {A : Type 0} (P : A → Type 0) where
-  pub every-at : (l : List A) (i : ℕ) (d : A) → Every P l → P d → P (getD l i d)
-  every-at [] i d h p = p
-  every-at (x ∷ l) zero d h p = h .0
-  every-at (x ∷ l) (suc i) d h p = every-at l i d (h .1) p
+  pub all-at : (l : List A) (i : ℕ) (d : A) → All P l → P d → P (getD l i d)
+  all-at [] i d h p = p
+  all-at (x ∷ l) zero d h p = h .0
+  all-at (x ∷ l) (suc i) d h p = all-at l i d (h .1) p
 
-  every-set : (l : List A) (i : ℕ) (v : A) → Every P l → P v → Every P (set l i v)
-  every-set [] i v h p = tt
-  every-set (x ∷ l) zero v h p = (p, h .1)
-  every-set (x ∷ l) (suc i) v h p = (h .0, every-set l i v (h .1) p)
+  all-set : (l : List A) (i : ℕ) (v : A) → All P l → P v → All P (set l i v)
+  all-set [] i v h p = tt
+  all-set (x ∷ l) zero v h p = (p, h .1)
+  all-set (x ∷ l) (suc i) v h p = (h .0, all-set l i v (h .1) p)
 
-  every-behind : (l : List A) (v : A) → Every P l → P v → Every P (l ++ (v ∷ []))
-  every-behind [] v h p = (p, tt)
-  every-behind (x ∷ l) v h p = (h .0, every-behind l v (h .1) p)
+  all-behind : (l : List A) (v : A) → All P l → P v → All P (l ++ (v ∷ []))
+  all-behind [] v h p = (p, tt)
+  all-behind (x ∷ l) v h p = (h .0, all-behind l v (h .1) p)
 
-  every-rest : (l : List A) → Every P l → Every P (drop 1 l)
-  every-rest [] h = tt
-  every-rest (x ∷ l) h = h .1
+  all-rest : (l : List A) → All P l → All P (drop 1 l)
+  all-rest [] h = tt
+  all-rest (x ∷ l) h = h .1
 
-  every-same : (n : ℕ) (v : A) → P v → Every P (replicate n v)
-  every-same zero v p = tt
-  every-same (suc n) v p = (p, every-same n v p)
+  all-same : (n : ℕ) (v : A) → P v → All P (replicate n v)
+  all-same zero v p = tt
+  all-same (suc n) v p = (p, all-same n v p)
 
 -- ---- the firmware
 word-small : (r s c d : ℕ) → wordOf r s c d < 0x1_0000_0000
@@ -74,7 +76,7 @@ module _ (f : Firmware) (k : TypedFirmware f) where
     part2 = tt;
     part3 = tt;
     interrupts-long = length-set (f .interrupts) _ _ ∙ k .interrupts-long;
-    interrupts = every-set TypedInterrupt (f .interrupts) _ _ (k .interrupts) (a, b, c);
+    interrupts = all-set TypedInterrupt (f .interrupts) _ _ (k .interrupts) (a, b, c);
   }
 
   delivery-typed : (d : ℕ) → TypedRan (deliveryOf f d)
@@ -90,7 +92,7 @@ module _ (f : Firmware) (k : TypedFirmware f) where
         part2 = k .part2;
         part3 = k .part3;
         interrupts-long = length-set (f .interrupts) _ _ ∙ k .interrupts-long;
-        interrupts = every-set TypedInterrupt (f .interrupts) _ _ (k .interrupts) (every-at TypedInterrupt (f .interrupts) (idIn d) nothing (k .interrupts) tt);
+        interrupts = all-set TypedInterrupt (f .interrupts) _ _ (k .interrupts) (all-at TypedInterrupt (f .interrupts) (idIn d) nothing (k .interrupts) tt);
       }
 
       saved : (e : Descriptor) → TypedRan (whenSaved e (answers f 2 0x85 d) (answers (delivering f d) 0 0x85 d))
@@ -116,10 +118,10 @@ pub fresh-typed : Typed freshMailbox
 fresh-typed = record {
   register = tt;
   line-long = refl;
-  line = every-same TypedPost 8 noPost (omega arith, omega arith, omega arith);
+  line = all-same TypedPost 8 noPost (omega arith, omega arith, omega arith);
   places-long = refl;
-  places = every-same TypedPlace 8 (placed Free) tt;
-  firmware = record { part1 = tt; part2 = tt; part3 = tt; interrupts-long = refl; interrupts = every-same TypedInterrupt 64 nothing tt };
+  places = all-same TypedPlace 8 (placeWith Free) tt;
+  firmware = record { part1 = tt; part2 = tt; part3 = tt; interrupts-long = refl; interrupts = all-same TypedInterrupt 64 nothing tt };
 }
 
 module _ (m : Mailbox) (k : Typed m) where
@@ -128,8 +130,8 @@ module _ (m : Mailbox) (k : Typed m) where
   past-check true n x h = h refl
   past-check false n x h = k
 
-  with-place : (c : ℕ) (s : PlaceState) → TypedState s → (length (set (m .places) c (placed s)) ≡ 8) × Every TypedPlace (set (m .places) c (placed s))
-  with-place c s t = (length-set (m .places) c (placed s) ∙ k .places-long, every-set TypedPlace (m .places) c (placed s) (k .places) t)
+  with-place : (c : ℕ) (s : PlaceState) → TypedState s → (length (set (m .places) c (placeWith s)) ≡ 8) × All TypedPlace (set (m .places) c (placeWith s))
+  with-place c s t = (length-set (m .places) c (placeWith s) ∙ k .places-long, all-set TypedPlace (m .places) c (placeWith s) (k .places) t)
 
   joined-typed : (c n d : ℕ) → c ≤ 7 → n ≤ 0x3FF → d < 0x1_0000 → Typed (joined m c n d)
   joined-typed c n d low fit small =
@@ -137,7 +139,7 @@ module _ (m : Mailbox) (k : Typed m) where
       record {
         register = k .register;
         line-long = length-set (m .line) (m .count) (postBy c n d) ∙ k .line-long;
-        line = every-set TypedPost (m .line) (m .count) (postBy c n d) (k .line) (omega arith, omega arith, small);
+        line = all-set TypedPost (m .line) (m .count) (postBy c n d) (k .line) (omega arith, omega arith, small);
         places-long = p .0;
         places = p .1;
         firmware = k .firmware;
@@ -152,11 +154,11 @@ module _ (m : Mailbox) (k : Typed m) where
   oldest-typed : Typed (withOldest m)
   unfolding shifted
   oldest-typed =
-      let p = every-at TypedPost (m .line) 0 noPost (k .line) (omega arith, omega arith, omega arith) in
+      let p = all-at TypedPost (m .line) 0 noPost (k .line) (omega arith, omega arith, omega arith) in
       record {
         register = (p .0, word-small 0 0 _ _);
         line-long = shifted-long (m .line) (k .line-long);
-        line = every-behind TypedPost (drop 1 (m .line)) noPost (every-rest TypedPost (m .line) (k .line)) (omega arith, omega arith, omega arith);
+        line = all-behind TypedPost (drop 1 (m .line)) noPost (all-rest TypedPost (m .line) (k .line)) (omega arith, omega arith, omega arith);
         places-long = k .places-long;
         places = k .places;
         firmware = k .firmware;
@@ -210,3 +212,6 @@ module _ (m : Mailbox) (k : Typed m) where
       go Free = k
       go Waiting = k
       go (Ready w) = freed-typed c
+
+pub whole : (m : Mailbox) → Typed m → Whole m
+whole m k = record { line-long = k .line-long; places-long = k .places-long; interrupts-long = k .firmware .interrupts-long }

@@ -7,18 +7,18 @@ use Rattle.reply.specs.Reply.{Reply, given, refused}
 use Rattle.lent.specs.Lent.{numberOf, wordsFor}
 use Rattle.mailbox.specs.declared.Mailbox.{Mailbox}
 use Rattle.mailbox.specs.Machine.{freshMailbox}
-use Rattle.mailbox.specs.Calls.{After, postOf, loadOf, turnOf, unloadOf, takeOf}
-use Rattle.mailbox_words.specs.Layout.{packOf, unpackOf}
+use Rattle.mailbox_calls.specs.Calls.{After, postOf, loadOf, turnOf, unloadOf, takeOf}
+use Rattle.mailbox_layout.specs.Layout.{wordsOfMailbox, packOf, unpackOf}
 use Rattle.mailbox_words.specs.Calls.{layAccepted, layActed, layWord, Left, postOn, loadOn, turnOn, unloadOn, takeOn}
 use Rattle.mailbox_runs.specs.Typed.{Typed}
 
 -- the values' words have room for what is given
-abbrev pub Room : {A : Type 0} → (A → List ℕ) → Reply A → List ℕ → Type 0
+abbrev pub Room : {A : Type 0} → (lay : A → List ℕ) → Reply A → (values : List ℕ) → Type 0
 Room lay (given a) values = length (lay a) ≤ length values
 Room lay (refused number carried) values = Unit {0}
 
 -- the values' words after the call
-abbrev pub valuesAfter : {A : Type 0} → (A → List ℕ) → Reply A → List ℕ → List ℕ
+abbrev pub valuesAfter : {A : Type 0} → (lay : A → List ℕ) → Reply A → (values : List ℕ) → List ℕ
 valuesAfter lay (given a) values = wordsFor (lay a) values
 valuesAfter lay (refused number carried) values = values
 
@@ -27,10 +27,12 @@ pub record Through {A : Type 0} (lay : A → List ℕ) (a : After (Reply A)) (on
   pub number : (behind values : List ℕ) → Room lay (a .answer) values → on (packOf m ++ behind) values .number ≡ numberOf (a .answer)
   pub words : (behind values : List ℕ) → Room lay (a .answer) values → on (packOf m ++ behind) values .words ≡ packOf (a .mailbox) ++ behind
   pub values : (behind values : List ℕ) → Room lay (a .answer) values → on (packOf m ++ behind) values .values ≡ valuesAfter lay (a .answer) values
-  -- and the mailbox after it is one of the same kind
+  -- and the mailbox after it is typed too
   pub typed : Typed (a .mailbox)
 
 pub record Faithful (m : Mailbox) : Type 0 where
+  -- a mailbox has 88 words
+  pub long : length (packOf m) ≡ wordsOfMailbox
   -- what is packed is read back
   pub back : (behind : List ℕ) → unpackOf (packOf m ++ behind) ≡ m
   pub post-through : (caller command d : ℕ) → d < 0x1_0000 → Through layAccepted (postOf m caller command d) (postOn caller command d) m

@@ -16,14 +16,16 @@ use Rattle.mailbox.specs.declared.PlaceState.{PlaceState}
 use Rattle.mailbox.specs.declared.PlaceState.the-variants.{Free, Waiting, Ready}
 use Rattle.mailbox.specs.declared.Place.{Place}
 use Rattle.mailbox.specs.declared.Mailbox.{Mailbox}
-use Rattle.mailbox.specs.Machine.{placed, stateOf, joined, withOldest, freed}
+use Rattle.mailbox.specs.Machine.{placeWith, stateOf, joined, withOldest, freed}
 use Rattle.mailbox.specs.Consistent.{consistentOf}
-use Rattle.mailbox.specs.Calls.{After, after, leaves, accepted, postOf, loadedFrom, takeOf}
+use Rattle.mailbox_calls.specs.Calls.{After, after, leaves, accepted, postOf, loadedFrom, takeOf}
 use Rattle.mailbox.proofs.Facts.{both, room, response-low}
-use Rattle.mailbox_words.specs.Layout.{upTo, bitOf, wordIn, phaseFrom, placeFrom, placeAt, packOf, unpackOf}
-use Rattle.mailbox_words.specs.Calls.{heldIn, layActed, Left, left, leftWith, leftBy, callOn, freshWords}
-use Rattle.mailbox_words.proofs.LayoutLaws.{getD-upTo}
-use Rattle.mailbox_words.proofs.StoredLaws.{unpacked-whole, held-long, held-kept}
+use Rattle.mailbox_layout.specs.Layout.{bitOf, phaseFrom, placeFrom, placeAt, packOf, unpackOf}
+use Rattle.mailbox_words.specs.Calls.{layActed, Left, left, leftWith, leftBy, callOn, freshWords}
+use Rattle.mailbox_held.specs.Held.{heldIn}
+use Rattle.mailbox_layout.proofs.LayoutLaws.{getD-upTo, unpacked-whole}
+use Rattle.mailbox_held.proofs.HeldLaws.{held-long}
+use Rattle.mailbox_words.proofs.StoredLaws.{held-kept}
 
 -- ---- what is left: the number, the words and the values after a function
 abbrev pub Leaves : Left → ℕ → (words values : List ℕ) → Type 0
@@ -74,7 +76,7 @@ module _ (ws : List ℕ) (b : Bool) (q : b ≡ (heldIn ws && consistentOf (unpac
   -- what stands in a caller's place is what its word says
   pub state-is : (caller : ℕ) (place : Place) (s : PlaceState) → caller ≤ 7 → place ≡ placeFrom (getD ws (16 + caller) 0) → place .state ≡ s → stateOf (unpackOf ws) caller ≡ s
   unfolding unpackOf
-  state-is caller place s p k r = ap (λ (x : Place). x .state) (getD-upTo (placeAt ws) (placed Free) 8 caller (omega arith) ∙ sym k) ∙ r
+  state-is caller place s p k r = ap (λ (x : Place). x .state) (getD-upTo (placeAt ws) (placeWith Free) 8 caller (omega arith) ∙ sym k) ∙ r
 
   pub has-room : (caller : ℕ) → caller ≤ 7 → stateOf (unpackOf ws) caller ≡ Free → getD ws 3 0 < 8
   unfolding unpackOf
@@ -221,7 +223,7 @@ short-one n e = omega arith
 -- ---- a fresh mailbox
 -- its words: word 4 is 1, and the others are 0
 fresh-is : set (replicate 88 0) 4 1 ≡ freshWords
-unfolding packOf upTo wordIn
+unfolding packOf
 fresh-is = refl
 
 module _ (l ws : List ℕ) (q : l ≡ set (replicate 88 0) 4 1) where

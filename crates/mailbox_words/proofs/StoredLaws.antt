@@ -2,35 +2,27 @@
 use mathlib.Core.Bool.{true, false, false≢true}
 use mathlib.Core.Path.{_≡_, refl, sym, ap, _∙_}
 use mathlib.Core.List.{List, [], _∷_, _++_, map, append-assoc}
-use Prim.Native.Nat.{ℕ, zero, suc, _+_, _-_, _≤_, _<_}
+use Prim.Native.Nat.{ℕ, zero, suc, _+_, _≤_, _<_}
 use native.Mathlib.Omega.{arith}
-use native.Mathlib.Decide.{decLe}
 use native.Mathlib.Nat.{zero-add, suc-add}
-use lib.ListN.{length, getD, set, drop, length-append, length-map, List·getD-append, List·getD-map}
-use lib.Seq.{getD-append-add, set-append-left}
+use lib.ListN.{length, set, drop, length-map}
+use lib.Seq.{set-append-left}
 use lib.Dec.{eqb}
 use borrow.Author.Tests.{eqb-true}
-use Rattle.firmware.specs.Rules.{nothing}
 use Rattle.firmware.specs.declared.Interrupt.{Interrupt}
 use Rattle.lent.specs.Lent.{wordsFor, begins}
 use Rattle.lent.proofs.Laws.{words-fits}
-use Rattle.mailbox.specs.declared.PlaceState.the-variants.{Free}
 use Rattle.mailbox.specs.declared.Place.{Place}
 use Rattle.mailbox.specs.declared.Post.{Post}
 use Rattle.mailbox.specs.declared.Mailbox.{Mailbox}
-use Rattle.mailbox.specs.Machine.{noPost, placed}
 use Rattle.mailbox.proofs.Facts.{both}
-use Rattle.mailbox_words.specs.Layout.{postWord, placeWord, interruptWord, headOf, wordIn, packOf, unpackOf, firmwareFrom}
-use Rattle.mailbox_words.specs.Calls.{heldIn}
-use Rattle.mailbox_words.proofs.LayoutLaws.{length-upTo, length-pack, up-all, word-head, word-post, word-place, word-interrupt}
+use Rattle.mailbox_layout.specs.Layout.{postWord, placeWord, interruptWord, headOf, packOf, unpackOf}
+use Rattle.mailbox_held.specs.Held.{heldIn}
+use Rattle.mailbox_layout.proofs.LayoutLaws.{Whole, unpacked-whole, pack-long}
+use Rattle.mailbox_held.proofs.HeldLaws.{held-long}
 
 -- ---- lists one behind another
 module _ {A : Type 0} (a b : List A) where
-  getD-past : (d : A) (k i : ℕ) → length a ≡ k → k ≤ i → getD (a ++ b) i d ≡ getD b (i - k) d
-  getD-past d k i e p =
-      let at : i ≡ length a + (i - k) = omega arith in
-      ap (λ (j : ℕ). getD (a ++ b) j d) at ∙ getD-append-add a b (i - k) d
-
   set-past : (k j : ℕ) (v : A) → length a ≡ k → set (a ++ b) (k + j) v ≡ a ++ set b j v
   set-past k j v e = ap (λ (n : ℕ). set (a ++ b) (n + j) v) (sym e) ∙ go a
     where
@@ -49,16 +41,6 @@ laid head line places interrupts behind = head ++ (line ++ (places ++ (interrupt
 
 abbrev pub laidOf : Mailbox → List ℕ → List ℕ
 laidOf m behind = laid (headOf m) (map postWord (m .line)) (map placeWord (m .places)) (map interruptWord (m .firmware .interrupts)) behind
-
--- as many posts, places and interrupts as the layout has
-pub record Whole (m : Mailbox) : Type 0 where
-  pub line-long : length (m .line) ≡ 8
-  pub places-long : length (m .places) ≡ 8
-  pub interrupts-long : length (m .firmware .interrupts) ≡ 64
-
-pub unpacked-whole : (ws : List ℕ) → Whole (unpackOf ws)
-unfolding unpackOf firmwareFrom
-unpacked-whole ws = record { line-long = length-upTo _ 8; places-long = length-upTo _ 8; interrupts-long = length-upTo _ 64 }
 
 -- a store into the line, into a place, for an interrupt
 module _ (head line places interrupts behind : List ℕ) (i v : ℕ) (h : length head ≡ 8) where
@@ -117,7 +99,7 @@ module _ (head : List ℕ) (line : List Post) (places : List Place) (all : List 
         ∙ ap (λ (r : List ℕ). laid head (map postWord line) (map placeWord places) r behind) (sym (map-set interruptWord all i x))
 
 -- ---- the words that a mailbox is packed into
-module _ (m : Mailbox) (w : Whole m) where
+module _ (m : Mailbox) where
   abbrev head : List ℕ
   head = headOf m
 
@@ -130,81 +112,16 @@ module _ (m : Mailbox) (w : Whole m) where
   abbrev kept : List ℕ
   kept = map interruptWord (m .firmware .interrupts)
 
-  posts-long : length posts ≡ 8
-  posts-long = length-map (m .line) postWord ∙ w .line-long
-
-  spots-long : length spots ≡ 8
-  spots-long = length-map (m .places) placeWord ∙ w .places-long
-
-  kept-long : length kept ≡ 64
-  kept-long = length-map (m .firmware .interrupts) interruptWord ∙ w .interrupts-long
-
-  abbrev all : List ℕ
-  all = head ++ (posts ++ (spots ++ kept))
-
-  all-long : length all ≡ 88
-  all-long =
-      let a = length-append head (posts ++ (spots ++ kept)) in
-      let b = length-append posts (spots ++ kept) in
-      let d = length-append spots kept in
-      long (length all) (length (posts ++ (spots ++ kept))) (length (spots ++ kept)) (length posts) (length spots) (length kept) a b d posts-long spots-long kept-long
-    where
-      long : (x y z p s k : ℕ) → x ≡ 8 + y → y ≡ p + z → z ≡ s + k → p ≡ 8 → s ≡ 8 → k ≡ 64 → x ≡ 88
-      long x y z p s k a b d e f g = omega arith
-
-  abbrev word : ℕ → ℕ
-  word = wordIn head (m .line) (m .places) (m .firmware .interrupts)
-
-  -- word i stands at i, wherever that is
-  word-at : (i : ℕ) → i < 88 → word i ≡ getD all i 0
-  word-at i p = at-head (decLe 8 i)
-    where
-      past-head : 8 ≤ i → getD all i 0 ≡ getD (posts ++ (spots ++ kept)) (i - 8) 0
-      past-head a = getD-past head (posts ++ (spots ++ kept)) 0 8 i refl a
-
-      past-line : 16 ≤ i → getD all i 0 ≡ getD (spots ++ kept) (i - 16) 0
-      past-line b =
-          let e : i - 8 - 8 ≡ i - 16 = omega arith in
-          past-head (omega arith) ∙ (getD-past posts (spots ++ kept) 0 8 (i - 8) posts-long (omega arith) ∙ ap (λ (j : ℕ). getD (spots ++ kept) j 0) e)
-
-      past-places : 24 ≤ i → getD all i 0 ≡ getD kept (i - 24) 0
-      past-places d =
-          let e : i - 16 - 8 ≡ i - 24 = omega arith in
-          past-line (omega arith) ∙ (getD-past spots kept 0 8 (i - 16) spots-long (omega arith) ∙ ap (λ (j : ℕ). getD kept j 0) e)
-
-      in-places : 16 ≤ i → Dec (24 ≤ i) → word i ≡ getD all i 0
-      in-places b (yes d) =
-          sym (word-interrupt head (m .line) (m .places) (m .firmware .interrupts) i (getD all i 0) (past-places d ∙ List·getD-map interruptWord (m .firmware .interrupts) (i - 24) nothing) (omega arith) b d)
-      in-places b (no d) =
-          let long = spots-long in
-          sym (word-place head (m .line) (m .places) (m .firmware .interrupts) i (getD all i 0)
-          (past-line b ∙ (List·getD-append spots kept 0 (i - 16) (omega arith) ∙ List·getD-map placeWord (m .places) (i - 16) (placed Free))) (omega arith) b (omega arith))
-
-      in-line : 8 ≤ i → Dec (16 ≤ i) → word i ≡ getD all i 0
-      in-line a (yes b) = in-places b (decLe 24 i)
-      in-line a (no b) =
-          let long = posts-long in
-          sym (word-post head (m .line) (m .places) (m .firmware .interrupts) i (getD all i 0)
-          (past-head a ∙ (List·getD-append posts (spots ++ kept) 0 (i - 8) (omega arith) ∙ List·getD-map postWord (m .line) (i - 8) noPost)) a (omega arith))
-
-      at-head : Dec (8 ≤ i) → word i ≡ getD all i 0
-      at-head (yes a) = in-line a (decLe 16 i)
-      at-head (no a) = sym (List·getD-append head (posts ++ (spots ++ kept)) 0 i (omega arith) ∙ word-head head (m .line) (m .places) (m .firmware .interrupts) i (omega arith))
-
-  pack-is : packOf m ≡ all
-  unfolding packOf
-  pack-is = up-all word all 0 88 all-long word-at
-
   laid-pack : (behind : List ℕ) → packOf m ++ behind ≡ laidOf m behind
+  unfolding packOf
   laid-pack behind =
-      ap (λ (l : List ℕ). l ++ behind) pack-is
-      ∙ (append-assoc head (posts ++ (spots ++ kept)) behind
-      ∙ ap (λ (l : List ℕ). head ++ l) (append-assoc posts (spots ++ kept) behind ∙ ap (λ (l : List ℕ). posts ++ l) (append-assoc spots kept behind)))
+      append-assoc head (posts ++ (spots ++ kept)) behind
+      ∙ ap (λ (l : List ℕ). head ++ l) (append-assoc posts (spots ++ kept) behind ∙ ap (λ (l : List ℕ). posts ++ l) (append-assoc spots kept behind))
 
   -- what stands in the words once a mailbox is laid there
-  pub stored : (ws : List ℕ) → 88 ≤ length ws → laidOf m (drop 88 ws) ≡ wordsFor (packOf m) ws
-  stored ws p =
-      let long = length-pack m in
+  pub stored : Whole m → (ws : List ℕ) → 88 ≤ length ws → laidOf m (drop 88 ws) ≡ wordsFor (packOf m) ws
+  stored w ws p =
+      let long = pack-long m w in
       sym (laid-pack (drop 88 ws)) ∙ (ap (λ (n : ℕ). packOf m ++ drop n ws) (sym long) ∙ words-fits (packOf m) ws (omega arith))
 
 -- ---- words that begin with a mailbox's
@@ -221,19 +138,16 @@ begins-is (v ∷ vs) (w ∷ ws) e =
     (omega arith, λ i. same i ∷ rest i)
 
 module _ (ws : List ℕ) (h : heldIn ws ≡ true) where
-  pub held-long : 88 ≤ length ws
-  unfolding heldIn
-  held-long =
-      let long = length-pack (unpackOf ws) in
-      let b = begins-is (packOf (unpackOf ws)) ws h .0 in
-      omega arith
-
   pub held-laid : ws ≡ laidOf (unpackOf ws) (drop 88 ws)
   unfolding heldIn
   held-laid =
       begins-is (packOf (unpackOf ws)) ws h .1
-      ∙ (ap (λ (n : ℕ). packOf (unpackOf ws) ++ drop n ws) (length-pack (unpackOf ws)) ∙ laid-pack (unpackOf ws) (unpacked-whole ws) (drop 88 ws))
+      ∙ (ap (λ (n : ℕ). packOf (unpackOf ws) ++ drop n ws) (pack-long (unpackOf ws) (unpacked-whole ws)) ∙ laid-pack (unpackOf ws) (drop 88 ws))
 
   -- a mailbox that stays leaves the words as they were
   pub held-kept : ws ≡ wordsFor (packOf (unpackOf ws)) ws
-  held-kept = held-laid ∙ stored (unpackOf ws) (unpacked-whole ws) ws held-long
+  held-kept = held-laid ∙ stored (unpackOf ws) (unpacked-whole ws) ws (held-long ws h)
+
+  -- the words of a mailbox that is laid out before the rest
+  pub laid-words : (next : Mailbox) (after : List ℕ) → Whole next → after ≡ laidOf next (drop 88 ws) → after ≡ wordsFor (packOf next) ws
+  laid-words next after w e = e ∙ stored next w ws (held-long ws h)

@@ -5,24 +5,21 @@ use Prim.Native.Nat.{ℕ}
 use lib.ListN.{length}
 use lib.Dec.{leb}
 use Rattle.reply.specs.Reply.{Reply, given, refused}
-use Rattle.lent.specs.Lent.{wordsFor, begins}
+use Rattle.lent.specs.Lent.{wordsFor}
 use Rattle.mailbox.specs.declared.Mailbox.{Mailbox}
 use Rattle.mailbox.specs.Machine.{freshMailbox}
-use Rattle.mailbox.specs.Calls.{After, Accepted, postOf, loadOf, turnOf, unloadOf, takeOf}
-use Rattle.mailbox_words.specs.Layout.{bitOf, packOf, unpackOf}
-
--- the words begin with a mailbox's: what is read from them, packed again, stands there
-unfoldable pub heldIn : List ℕ → Bool
-heldIn words = begins (packOf (unpackOf words)) words
+use Rattle.mailbox_calls.specs.Calls.{After, Accepted, postOf, loadOf, turnOf, unloadOf, takeOf}
+use Rattle.mailbox_layout.specs.Layout.{bitOf, packOf, unpackOf}
+use Rattle.mailbox_held.specs.Held.{heldIn}
 
 -- what an answer gives, as values: nothing for accepted, 1 for yes and 0 for no, the word that is taken
 abbrev pub layAccepted : Accepted → List ℕ
 layAccepted a = []
 
-abbrev pub layActed : Bool → List ℕ
+abbrev pub layActed : (acted : Bool) → List ℕ
 layActed acted = bitOf acted ∷ []
 
-abbrev pub layWord : ℕ → List ℕ
+abbrev pub layWord : (word : ℕ) → List ℕ
 layWord word = word ∷ []
 
 -- what a call leaves: its number, the mailbox's words, the values' words
@@ -35,16 +32,16 @@ abbrev pub left : (number : ℕ) (words values : List ℕ) → Left
 left number words values = record { number = number; words = words; values = values }
 
 -- values to be given and a mailbox: 12, and nothing written, where the values have no room
-unfoldable pub leftWith : List ℕ → Mailbox → (words values : List ℕ) → Left
+unfoldable pub leftWith : (gives : List ℕ) → Mailbox → (words values : List ℕ) → Left
 leftWith gives m words values = cond (leb (length gives) (length values)) (left 0 (wordsFor (packOf m) words) (wordsFor gives values)) (left 12 words values)
 
 -- what is given is laid out as values; a refusal leaves its number and nothing else
-abbrev pub leftBy : {A : Type 0} → (A → List ℕ) → Mailbox → Reply A → (words values : List ℕ) → Left
+abbrev pub leftBy : {A : Type 0} → (lay : A → List ℕ) → Mailbox → Reply A → (words values : List ℕ) → Left
 leftBy lay m (given a) words values = leftWith (lay a) m words values
 leftBy lay m (refused number carried) words values = left number words values
 
 -- words that are no mailbox's answer 5, first of all
-unfoldable pub callOn : {A : Type 0} → (A → List ℕ) → (Mailbox → After (Reply A)) → (words values : List ℕ) → Left
+unfoldable pub callOn : {A : Type 0} → (lay : A → List ℕ) (call : Mailbox → After (Reply A)) → (words values : List ℕ) → Left
 callOn lay call words values =
     cond (heldIn words) (leftBy lay (call (unpackOf words) .mailbox) (call (unpackOf words) .answer) words values)
     (left 5 words values)

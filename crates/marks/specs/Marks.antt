@@ -4,9 +4,9 @@ use mathlib.Core.Bool.{Bool}
 use lib.Dec.{eqb}
 
 -- bit b of a word is one
-abbrev pub bitOf : ℕ → ℕ → Bool
+abbrev pub bitOf : (word b : ℕ) → Bool
 bitOf word b = eqb (word / 2 ^ b % 2) 1
 
 -- a word with its lowest bit turned over
-abbrev pub keptAs : ℕ → ℕ
+abbrev pub keptAs : (word : ℕ) → ℕ
 keptAs word = word / 2 * 2 + (1 - word % 2)

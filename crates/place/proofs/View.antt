@@ -12,30 +12,33 @@ use Rattle.reply.specs.Reply.{Reply, Carried, given, refused, alone, then}
 use Rattle.reply.proofs.ReplyLaws.{past, passed, then-given}
 use Rattle.directory.specs.Directory.{directoryAt, directoryByCookie}
 use Rattle.entries.specs.Entry.{entryIn, leadIn}
-use Rattle.entries.specs.Part.{leadsTo, rangedAt, partOf, partIn, bytesOf, beginOf}
+use Rattle.entries.specs.Part.{leadsTo, partWithin, partOf, partIn, bytesOf, beginOf}
 use Rattle.directory.specs.declared.Directory.{Directory}
 use Rattle.entries.specs.declared.Entry.{Entry}
 use Rattle.entries.specs.declared.Part.{Part}
 use Rattle.directory.proofs.Accept.{only-good, cookie-acceptance}
 use Rattle.entries.proofs.Parts.{part-inside}
-use Rattle.flash.specs.Efs.{pointerIn}
-use Rattle.flash.specs.Good.{GoodLength}
-use Rattle.flash.specs.Flash.{Reading, base, flashDirectory, flashPart}
-use Rattle.flash.proofs.Ways.{sized-passed, sized-past, Opened, one, two, opened}
-use Rattle.place.specs.Place.{placedAt, entryAt, partAt, heldBytes, heldPlace, viewImage, viewPlace, partThrough}
+use Rattle.efs.specs.Efs.{pointerIn}
+use Rattle.efs.specs.Good.{GoodLength}
+use Rattle.efs.specs.Rules.{baseRules}
+use Rattle.efs.specs.declared.Rules.{Rules}
+use Rattle.flash.specs.Flash.{flashDirectory, flashPart}
+use Rattle.efs.proofs.Length.{sized-passed, sized-past}
+use Rattle.flash.proofs.Ways.{Opened, one, two, opened}
+use Rattle.place.specs.Place.{checkAt, entryAt, partAt, heldBytes, heldPlace, viewImage, viewPlace, partThrough}
 use Rattle.place.specs.View.{GoodPlace, PlaceAcceptance, SameThroughView, ViewOfLevel, PartOfImage}
 
-module _ (r : Reading) (s : List ℕ) where
-  only-place : (place : ℕ) (d : Directory) → placedAt r s place ≡ given d → GoodPlace r s place d
-  unfolding placedAt
+module _ (r : Rules) (s : List ℕ) where
+  only-place : (place : ℕ) (d : Directory) → checkAt r s place ≡ given d → GoodPlace r s place d
+  unfolding checkAt
   only-place place d e =
       let z = sized-past s _ e in
       let g = past (leb place (length s)) _ _ _ (z .1) in
       let h = cookie-acceptance .only (r .kind) (r .limit) s place d (g .1) in
       record { long = z .0; good = h .0; here = h .1; level = h .2 }
 
-  all-place : (place : ℕ) (d : Directory) → (r .kind .one ≡ r .kind .two → ⊥) → GoodPlace r s place d → placedAt r s place ≡ given d
-  unfolding placedAt
+  all-place : (place : ℕ) (d : Directory) → (r .kind .one ≡ r .kind .two → ⊥) → GoodPlace r s place d → checkAt r s place ≡ given d
+  unfolding checkAt
   all-place place d apart g =
       let p = g .good .present in
       let h = g .here in
@@ -54,7 +57,7 @@ module _ (r : Reading) (s : List ℕ) where
           record { long = z; good = g .0; here = refl; level = subst (λ (n : ℕ). (n ≡ 1) ⊎ (n ≡ 2)) (sym (g .2)) w }
 
       by : {level : ℕ} → GoodLength s → Opened r s d level → GoodPlace r s (d .place .0) d
-      by z (one e) = let t = then-given (pointerIn (r .window) (r .candidates) s) _ e in at 1 (t .0 .place .0) z (t .2) (inl refl)
+      by z (one e) = let t = then-given (pointerIn r s) _ e in at 1 (t .0 .place .0) z (t .2) (inl refl)
       by z (two above e h) =
           let t = then-given (leadIn (r .kind) s above) _ h in
           let u = then-given (leadsTo (r .window) s (above .place .0) (t .0)) _ (t .2) in
@@ -63,40 +66,40 @@ module _ (r : Reading) (s : List ℕ) where
 pub place-acceptance : PlaceAcceptance
 place-acceptance = record { only = only-place; all = all-place }
 
-module _ (r : Reading) (apart : r .kind .one ≡ r .kind .two → ⊥) (level : ℕ) (s : List ℕ) where
+module _ (r : Rules) (apart : r .kind .one ≡ r .kind .two → ⊥) (level : ℕ) (s : List ℕ) where
   -- a directory of the level, asked for again at its place
-  kept : (d : Directory) → flashDirectory r level s ≡ given d → placedAt r s (d .place .0) ≡ given d
+  kept : (d : Directory) → flashDirectory r level s ≡ given d → checkAt r s (d .place .0) ≡ given d
   kept d e = all-place r s (d .place .0) d apart (good-opened r s level d e)
 
-  same : (d : Directory) → flashDirectory r level s ≡ given d → placedAt r (viewImage r level s) (viewPlace r level s) ≡ given d
+  same : (d : Directory) → flashDirectory r level s ≡ given d → checkAt r (viewImage r level s) (viewPlace r level s) ≡ given d
   same d e = rw e (kept d e)
 
   -- whatever is asked of it next
   same-next : {B : Type 0} (next : List ℕ → Directory → Reply B) (d : Directory) → flashDirectory r level s ≡ given d →
-      then (placedAt r (viewImage r level s) (viewPlace r level s)) (next (viewImage r level s)) ≡ then (flashDirectory r level s) (next s)
+      then (checkAt r (viewImage r level s) (viewPlace r level s)) (next (viewImage r level s)) ≡ then (flashDirectory r level s) (next s)
   same-next next d e = rw (e, kept d e)
 
-  none-15 : (number : ℕ) (carried : Carried) → flashDirectory r level s ≡ refused number carried → placedAt r (viewImage r level s) (viewPlace r level s) ≡ refused 15 alone
-  unfolding placedAt
+  none-15 : (number : ℕ) (carried : Carried) → flashDirectory r level s ≡ refused number carried → checkAt r (viewImage r level s) (viewPlace r level s) ≡ refused 15 alone
+  unfolding checkAt
   none-15 number carried e = rw e
 
   next-15 : {B : Type 0} (next : List ℕ → Directory → Reply B) (number : ℕ) (carried : Carried) → flashDirectory r level s ≡ refused number carried →
-      then (placedAt r (viewImage r level s) (viewPlace r level s)) (next (viewImage r level s)) ≡ refused 15 alone
+      then (checkAt r (viewImage r level s) (viewPlace r level s)) (next (viewImage r level s)) ≡ refused 15 alone
   next-15 next number carried e = ap (λ (x : Reply Directory). then x (next (viewImage r level s))) (none-15 number carried e)
 
   -- of an entry's bytes nothing is left where they are refused, by the one number or the other
   module _ (i : ℕ) where
     same-bytes : (q : Reply Directory) → flashDirectory r level s ≡ q → bytesOf (viewImage r level s) (partThrough r level s i) ≡ bytesOf s (flashPart r level s i)
-    unfolding placedAt
+    unfolding checkAt
     same-bytes (given d) e = ap (λ (x : Reply Part). bytesOf (viewImage r level s) x) (same-next (λ x d. partIn (r .kind) (r .window) x d i) d e) ∙ rw e
     same-bytes (refused number carried) e = rw e
 
     same-begin : (at : ℕ × ℕ) (q : Reply Directory) → flashDirectory r level s ≡ q → beginOf at (partThrough r level s i) ≡ beginOf at (flashPart r level s i)
-    unfolding placedAt
+    unfolding checkAt
     same-begin at (given d) e = ap (beginOf at) (same-next (λ x d. partIn (r .kind) (r .window) x d i) d e)
     same-begin at (refused number carried) e = rw e
 
-through-view : (r : Reading) → (r .kind .one ≡ r .kind .two → ⊥) → SameThroughView r
+through-view : (r : Rules) → (r .kind .one ≡ r .kind .two → ⊥) → SameThroughView r
 through-view r apart = record {
   directory = same r apart;
   entry = λ level s d i. same-next r apart level s (λ x d. entryIn (r .kind) x d i) d;
@@ -110,21 +113,21 @@ through-view r apart = record {
 }
 
 pub view-of-level : ViewOfLevel
-view-of-level = record { every = through-view; document = through-view base (λ e. omega arith) }
+view-of-level = record { every = through-view; document = through-view baseRules (λ e. omega arith) }
 
-module _ (r : Reading) (s : List ℕ) (place i : ℕ) where
+module _ (r : Rules) (s : List ℕ) (place i : ℕ) where
   inside : (p : Part) → partAt r s place i ≡ given p → p .place + p .length ≤ length s
-  inside p e = let t = then-given (placedAt r s place) _ e in part-inside (r .kind) (r .window) s (t .0) i p (t .2)
+  inside p e = let t = then-given (checkAt r s place) _ e in part-inside (r .kind) (r .window) s (t .0) i p (t .2)
 
   size : (e : Entry) (p : Part) → entryAt r s place i ≡ given e → partAt r s place i ≡ given p → p .length ≡ e .size
-  unfolding partOf rangedAt
+  unfolding partOf partWithin
   size e p a b =
-      let t = then-given (placedAt r s place) _ a in
+      let t = then-given (checkAt r s place) _ a in
       let d = t .0 in
       let h : partIn (r .kind) (r .window) s d i ≡ given p = ap (λ (x : Reply Directory). then x (λ d. partIn (r .kind) (r .window) s d i)) (sym (t .1)) ∙ b in
       let g : partOf (r .kind) (r .window) s (d .place .0) e ≡ given p = ap (λ (x : Reply Entry). then x (partOf (r .kind) (r .window) s (d .place .0))) (sym (t .2)) ∙ h in
       let v = past (not (eqb (e .class) (r .kind .value))) _ _ _ g in
-      let u = then-given (leadsTo (r .window) s (d .place .0) e) (rangedAt s (e .size)) (v .1) in
+      let u = then-given (leadsTo (r .window) s (d .place .0) e) (partWithin s (e .size)) (v .1) in
       let w = past (leb (u .0 + e .size) (length s)) _ _ _ (u .2) in
       cc (w .1)
 

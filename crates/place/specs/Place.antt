@@ -1,34 +1,35 @@
 -- An image and a place in it: the directory there, its entries and their bytes; and what a view of a level holds. Assumes nothing: these are definitions.
 use Prim.Native.Nat.{ℕ}
 use mathlib.Core.List.{List, []}
-use lib.ListN.{length}
-use lib.Dec.{leb}
-use Rattle.reply.specs.Reply.{Reply, given, refused, guard, then}
+use Rattle.reply.specs.Reply.{Reply, given, refused, then}
+use Rattle.window.specs.Window.{within}
 use Rattle.directory.specs.Directory.{directoryByCookie}
 use Rattle.entries.specs.Entry.{entryIn}
 use Rattle.entries.specs.Part.{partIn}
 use Rattle.directory.specs.declared.Directory.{Directory}
 use Rattle.entries.specs.declared.Entry.{Entry}
 use Rattle.entries.specs.declared.Part.{Part}
-use Rattle.flash.specs.Flash.{Reading, sized, flashDirectory}
+use Rattle.flash.specs.Flash.{flashDirectory}
+use Rattle.efs.specs.Rules.{sized}
+use Rattle.efs.specs.declared.Rules.{Rules}
 
 -- the directory at a place, checked again without the EFS
-unfoldable pub placedAt : Reading → List ℕ → ℕ → Reply Directory
-placedAt r image place =
+unfoldable pub checkAt : Rules → (image : List ℕ) → (place : ℕ) → Reply Directory
+checkAt r image place =
     sized image  -- the image length (15)
-    (guard (leb place (length image)) 7  -- place beyond the image (7)
+    (within image place  -- place beyond the image (7)
     (directoryByCookie (r .kind) (r .limit) image place))  -- the directory's checks, its level by the cookie
 
 -- entry i of the directory at a place
-abbrev pub entryAt : Reading → List ℕ → ℕ → ℕ → Reply Entry
-entryAt r image place i = then (placedAt r image place) (λ d. entryIn (r .kind) image d i)
+abbrev pub entryAt : Rules → (image : List ℕ) → (place i : ℕ) → Reply Entry
+entryAt r image place i = then (checkAt r image place) (λ d. entryIn (r .kind) image d i)
 
 -- where the bytes of entry i of the directory at a place lie
-abbrev pub partAt : Reading → List ℕ → ℕ → ℕ → Reply Part
-partAt r image place i = then (placedAt r image place) (λ d. partIn (r .kind) (r .window) image d i)
+abbrev pub partAt : Rules → (image : List ℕ) → (place i : ℕ) → Reply Part
+partAt r image place i = then (checkAt r image place) (λ d. partIn (r .kind) (r .window) image d i)
 
 -- what is held of an image: all of it where there is a directory, no bytes where it is refused
-abbrev pub heldBytes : List ℕ → Reply Directory → List ℕ
+abbrev pub heldBytes : (image : List ℕ) → Reply Directory → List ℕ
 heldBytes image (given d) = image
 heldBytes image (refused number carried) = []
 
@@ -38,15 +39,15 @@ heldPlace (given d) = d .place .0
 heldPlace (refused number carried) = 0
 
 -- a view of the directory of a level: the lent image that it holds, and the place that it keeps
-abbrev pub viewImage : Reading → ℕ → List ℕ → List ℕ
+abbrev pub viewImage : Rules → (level : ℕ) → (image : List ℕ) → List ℕ
 viewImage r level image = heldBytes image (flashDirectory r level image)
 
-abbrev pub viewPlace : Reading → ℕ → List ℕ → ℕ
+abbrev pub viewPlace : Rules → (level : ℕ) → (image : List ℕ) → ℕ
 viewPlace r level image = heldPlace (flashDirectory r level image)
 
 -- entry i, and where its bytes lie, through a view of the directory of a level
-abbrev pub entryThrough : Reading → ℕ → List ℕ → ℕ → Reply Entry
+abbrev pub entryThrough : Rules → (level : ℕ) → (image : List ℕ) → (i : ℕ) → Reply Entry
 entryThrough r level image i = entryAt r (viewImage r level image) (viewPlace r level image) i
 
-abbrev pub partThrough : Reading → ℕ → List ℕ → ℕ → Reply Part
+abbrev pub partThrough : Rules → (level : ℕ) → (image : List ℕ) → (i : ℕ) → Reply Part
 partThrough r level image i = partAt r (viewImage r level image) (viewPlace r level image) i

@@ -10,12 +10,14 @@ use Rattle.entries.specs.Part.{bytesOf, beginOf}
 use Rattle.directory.specs.declared.Directory.{Directory}
 use Rattle.entries.specs.declared.Entry.{Entry}
 use Rattle.entries.specs.declared.Part.{Part}
-use Rattle.flash.specs.Good.{GoodLength}
-use Rattle.flash.specs.Flash.{Reading, base, flashDirectory, flashEntry, flashPart}
-use Rattle.place.specs.Place.{placedAt, entryAt, partAt, viewImage, viewPlace, entryThrough, partThrough}
+use Rattle.efs.specs.Good.{GoodLength}
+use Rattle.efs.specs.Rules.{baseRules}
+use Rattle.efs.specs.declared.Rules.{Rules}
+use Rattle.flash.specs.Flash.{flashDirectory, flashEntry, flashPart}
+use Rattle.place.specs.Place.{checkAt, entryAt, partAt, viewImage, viewPlace, entryThrough, partThrough}
 
 -- the directory d at a place: an image of a length that is allowed, and a good directory there, of level one or two
-pub record GoodPlace (r : Reading) (image : List ℕ) (place : ℕ) (d : Directory) : Type 0 where
+pub record GoodPlace (r : Rules) (image : List ℕ) (place : ℕ) (d : Directory) : Type 0 where
   pub long : GoodLength image
   pub good : GoodDirectory (r .kind) (r .limit) image d
   pub here : d .place .0 ≡ place
@@ -23,13 +25,13 @@ pub record GoodPlace (r : Reading) (image : List ℕ) (place : ℕ) (d : Directo
 
 -- a directory is given at a place exactly where it is good; of a kind whose cookies differ
 pub record PlaceAcceptance : Type 0 where
-  pub only : (r : Reading) (image : List ℕ) (place : ℕ) (d : Directory) → placedAt r image place ≡ given d → GoodPlace r image place d
-  pub all : (r : Reading) (image : List ℕ) (place : ℕ) (d : Directory) → (r .kind .one ≡ r .kind .two → ⊥) → GoodPlace r image place d → placedAt r image place ≡ given d
+  pub only : (r : Rules) (image : List ℕ) (place : ℕ) (d : Directory) → checkAt r image place ≡ given d → GoodPlace r image place d
+  pub all : (r : Rules) (image : List ℕ) (place : ℕ) (d : Directory) → (r .kind .one ≡ r .kind .two → ⊥) → GoodPlace r image place d → checkAt r image place ≡ given d
 
 -- a view of the directory of a level, for every level, image and index
-pub record SameThroughView (r : Reading) : Type 0 where
+pub record SameThroughView (r : Rules) : Type 0 where
   -- where the directory is given, the view's is the same, and each entry and part is that of the call on the level
-  pub directory : (level : ℕ) (image : List ℕ) (d : Directory) → flashDirectory r level image ≡ given d → placedAt r (viewImage r level image) (viewPlace r level image) ≡ given d
+  pub directory : (level : ℕ) (image : List ℕ) (d : Directory) → flashDirectory r level image ≡ given d → checkAt r (viewImage r level image) (viewPlace r level image) ≡ given d
   pub entry : (level : ℕ) (image : List ℕ) (d : Directory) (i : ℕ) → flashDirectory r level image ≡ given d → entryThrough r level image i ≡ flashEntry r level image i
   pub part : (level : ℕ) (image : List ℕ) (d : Directory) (i : ℕ) → flashDirectory r level image ≡ given d → partThrough r level image i ≡ flashPart r level image i
   -- given or refused, the bytes are those of the call on the level, and begin where those do
@@ -38,20 +40,20 @@ pub record SameThroughView (r : Reading) : Type 0 where
   -- where the directory is refused, with whatever number, the view holds no bytes and place 0, and each call on it answers 15
   pub none : (level : ℕ) (image : List ℕ) (number : ℕ) (carried : Carried) → flashDirectory r level image ≡ refused number carried → (viewImage r level image ≡ []) × (viewPlace r level image ≡ 0)
   pub directory-15 : (level : ℕ) (image : List ℕ) (number : ℕ) (carried : Carried) → flashDirectory r level image ≡ refused number carried →
-      placedAt r (viewImage r level image) (viewPlace r level image) ≡ refused 15 alone
+      checkAt r (viewImage r level image) (viewPlace r level image) ≡ refused 15 alone
   pub entry-15 : (level : ℕ) (image : List ℕ) (i number : ℕ) (carried : Carried) → flashDirectory r level image ≡ refused number carried → entryThrough r level image i ≡ refused 15 alone
   pub part-15 : (level : ℕ) (image : List ℕ) (i number : ℕ) (carried : Carried) → flashDirectory r level image ≡ refused number carried → partThrough r level image i ≡ refused 15 alone
 
--- so it is for every reading of a kind whose cookies differ, and for document 01's
+-- so it is by all rules of a kind whose cookies differ, and by document 01's
 pub record ViewOfLevel : Type 0 where
-  pub every : (r : Reading) → (r .kind .one ≡ r .kind .two → ⊥) → SameThroughView r
-  pub document : SameThroughView base
+  pub every : (r : Rules) → (r .kind .one ≡ r .kind .two → ⊥) → SameThroughView r
+  pub document : SameThroughView baseRules
 
 -- the bytes of an entry are a part of the image, of the entry's size, and no copy: they begin in memory where that part of the image does
 pub record PartOfImage : Type 0 where
-  pub inside : (r : Reading) (image : List ℕ) (place i : ℕ) (p : Part) → partAt r image place i ≡ given p → p .place + p .length ≤ length image
-  pub size : (r : Reading) (image : List ℕ) (place i : ℕ) (e : Entry) (p : Part) → entryAt r image place i ≡ given e → partAt r image place i ≡ given p → p .length ≡ e .size
-  pub bytes : (r : Reading) (image : List ℕ) (place i : ℕ) (p : Part) → partAt r image place i ≡ given p → bytesOf image (partAt r image place i) ≡ take (p .length) (drop (p .place) image)
-  pub begin : (r : Reading) (image : List ℕ) (place i : ℕ) (p : Part) (at : ℕ × ℕ) → partAt r image place i ≡ given p → beginOf at (partAt r image place i) ≡ (at .0, p .place + at .1)
+  pub inside : (r : Rules) (image : List ℕ) (place i : ℕ) (p : Part) → partAt r image place i ≡ given p → p .place + p .length ≤ length image
+  pub size : (r : Rules) (image : List ℕ) (place i : ℕ) (e : Entry) (p : Part) → entryAt r image place i ≡ given e → partAt r image place i ≡ given p → p .length ≡ e .size
+  pub bytes : (r : Rules) (image : List ℕ) (place i : ℕ) (p : Part) → partAt r image place i ≡ given p → bytesOf image (partAt r image place i) ≡ take (p .length) (drop (p .place) image)
+  pub begin : (r : Rules) (image : List ℕ) (place i : ℕ) (p : Part) (at : ℕ × ℕ) → partAt r image place i ≡ given p → beginOf at (partAt r image place i) ≡ (at .0, p .place + at .1)
   -- where refused there are none
-  pub none : (r : Reading) (image : List ℕ) (place i number : ℕ) (carried : Carried) → partAt r image place i ≡ refused number carried → bytesOf image (partAt r image place i) ≡ []
+  pub none : (r : Rules) (image : List ℕ) (place i number : ℕ) (carried : Carried) → partAt r image place i ≡ refused number carried → bytesOf image (partAt r image place i) ≡ []

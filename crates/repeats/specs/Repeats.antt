@@ -10,24 +10,26 @@ use Rattle.directory.specs.declared.Repeat.{Repeat}
 use Rattle.entries.specs.Entry.{leadIn}
 use Rattle.entries.specs.Part.{leadsTo}
 use Rattle.entries.specs.declared.Entry.{Entry}
-use Rattle.flash.specs.Flash.{Reading, flashPointer, flashDirectory}
+use Rattle.flash.specs.Flash.{flashDirectory}
+use Rattle.efs.specs.Efs.{flashPointer}
+use Rattle.efs.specs.declared.Rules.{Rules}
 
 -- in level one: where the directory pointer leads
-abbrev pub repeatsOne : Reading → List ℕ → Reply Repeat
+abbrev pub repeatsOne : Rules → (image : List ℕ) → Reply Repeat
 repeatsOne r image = then (flashPointer r image) (λ p. repeatedAt (r .kind) (r .limit) 1 image (p .place .0))
 
 -- in the level two that entry e of a directory leads to
-abbrev pub repeatsLed : Reading → List ℕ → Directory → Entry → Reply Repeat
+abbrev pub repeatsLed : Rules → (image : List ℕ) → Directory → Entry → Reply Repeat
 repeatsLed r image d e = then (leadsTo (r .window) image (d .place .0) e) (repeatedAt (r .kind) (r .limit) 2 image)
 
 -- in the level two below a directory of level one: where its lowest entry of type 0x40 leads
-abbrev pub repeatsBelow : Reading → List ℕ → Directory → Reply Repeat
+abbrev pub repeatsBelow : Rules → (image : List ℕ) → Directory → Reply Repeat
 repeatsBelow r image d = then (leadIn (r .kind) image d) (repeatsLed r image d)
 
 -- in level two: level one is good, and leads there
-abbrev pub repeatsTwo : Reading → List ℕ → Reply Repeat
+abbrev pub repeatsTwo : Rules → (image : List ℕ) → Reply Repeat
 repeatsTwo r image = then (flashDirectory r 1 image) (repeatsBelow r image)
 
 -- in the directory of a level: the level number (9), then the image as for the directory itself
-unfoldable pub flashRepeats : Reading → ℕ → List ℕ → Reply Repeat
+unfoldable pub flashRepeats : Rules → (level : ℕ) → (image : List ℕ) → Reply Repeat
 flashRepeats r level image = guard (leb 1 level) 9 (guard (leb level 2) 9 (cond (eqb level 1) (repeatsOne r image) (repeatsTwo r image)))

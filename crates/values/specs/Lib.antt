@@ -1,1 +1,5 @@
 pub mod Values
+pub mod Images
+pub mod Tables
+pub mod Mailboxes
+pub mod Orders

@@ -3,13 +3,16 @@ use Prim.Native.Nat.{ℕ, _-_, _≤_}
 use mathlib.Core.Path.{_≡_}
 use mathlib.Core.List.{List, [], _∷_}
 use lib.ListN.{length}
-use Rattle.le.specs.Le.{leAt}
+use Rattle.le.specs.Field.{get}
+use Rattle.directory.specs.Header as header
 use Rattle.reply.specs.Reply.{Reply, given, refused, alone}
+use Rattle.reply.specs.Scan.{All}
 use Rattle.build.specs.Write.{directoryBytes}
 use Rattle.build.specs.declared.Fields.{Fields}
 use Rattle.firmware.specs.Rules.{freshFirmware, runOf}
 use Rattle.firmware.specs.declared.Firmware.{Firmware}
-use Rattle.guids.specs.Table.{guidAt, footer, totalAt, tableOf}
+use Rattle.guids.specs.Ending.{shortest}
+use Rattle.guids.specs.Table.{guidAt, footer, footerAt, totalAt, tableOf}
 use Rattle.guids.specs.declared.Totals.{Totals}
 
 -- what a row of the table says
@@ -21,19 +24,14 @@ pub data Row : Type 0 where
 
 -- that it holds
 abbrev pub Holds : Row → Type 0
--- a directory of these entries, of either level, has this checksum in the four bytes at 4
-Holds (directory entries checksum) = (level : ℕ) → leAt 4 (directoryBytes level entries) 4 ≡ checksum
+-- a directory of these entries, of either level, has this checksum in its header
+Holds (directory entries checksum) = (level : ℕ) → get header.checksum (directoryBytes level entries) 0 ≡ checksum
 -- firmware in this state answers this command word with this word
 Holds (firmware state asked answered) = runOf state asked .word ≡ answered
 -- firmware in any state does
 Holds (any-firmware asked answered) = (state : Firmware) → runOf state asked .word ≡ answered
 -- an image with the footer and this total, of any length and whatever else it holds, is answered so
-Holds (guid-table total answer) = (image : List ℕ) → 50 ≤ length image → guidAt image (length image - 48) ≡ footer → totalAt image ≡ total → tableOf image ≡ answer
-
--- all rows do
-abbrev pub AllHold : List Row → Type 0
-AllHold [] = Unit {0}
-AllHold (row ∷ rows) = Holds row × AllHold rows
+Holds (guid-table total answer) = (image : List ℕ) → shortest ≤ length image → guidAt image (footerAt image) ≡ footer → totalAt image ≡ total → tableOf image ≡ answer
 
 -- the entry of M2: type 1, subprogram 0, size 0x100, location 0x1000, mode 1
 abbrev pub entry : Fields
@@ -59,4 +57,4 @@ table =
 
 -- the statement
 abbrev pub Values : Type 0
-Values = AllHold table
+Values = All Holds table

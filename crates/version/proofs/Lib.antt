@@ -1,3 +1,3 @@
 pub mod Told
-pub mod Header
+pub mod Accept
 pub mod Example

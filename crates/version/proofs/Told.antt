@@ -3,17 +3,17 @@ use mathlib.Core.Path.{_≡_, refl}
 use Prim.Native.Nat.{ℕ}
 use Rattle.reply.specs.Reply.{Reply, given, refused, Settled}
 use Rattle.reply.proofs.ReplyLaws.{one-by, settled}
-use Rattle.version.specs.declared.Versioned.{Versioned}
-use Rattle.version.specs.declared.Versioned.the-variants as versioned
+use Rattle.version.specs.declared.VersionAnswer.{VersionAnswer}
+use Rattle.version.specs.declared.VersionAnswer.the-variants as versionAnswer
 use Rattle.version.specs.Version.{toldVersion}
 
-abbrev back : Reply ℕ → Versioned
-back (given version) = versioned.Given version
-back (refused number carried) = versioned.Refused (record { number = number })
+abbrev back : Reply ℕ → VersionAnswer
+back (given version) = versionAnswer.Given version
+back (refused number carried) = versionAnswer.Refused (record { number = number })
 
-back-told : (x : Versioned) → back (toldVersion x) ≡ x
-back-told (versioned.Given version) = refl
-back-told (versioned.Refused why) = refl
+back-told : (x : VersionAnswer) → back (toldVersion x) ≡ x
+back-told (versionAnswer.Given version) = refl
+back-told (versionAnswer.Refused why) = refl
 
 pub version-settled : Settled toldVersion
 version-settled = settled toldVersion (one-by toldVersion back back-told)

@@ -1,23 +1,17 @@
--- Which bytes begin with a firmware header, as plain facts; that exactly these have a version; and that no other byte matters. Assumes nothing: these are statements.
-use Prim.Native.Nat.{ℕ, _<_, _≤_}
-use mathlib.Core.Path.{_≡_}
-use mathlib.Core.List.{List}
-use lib.ListN.{length, getD}
-use Rattle.le.specs.Le.{leAt}
-use Rattle.reply.specs.Reply.{given}
-use Rattle.version.specs.Version.{mark, versionOf}
+-- Source document 001: the header that a firmware binary begins with, byte length and byte offset of the fields that are read. Assumes nothing: these are definitions.
+use Prim.Native.Nat.{ℕ}
+use Rattle.le.specs.Field.{Field, field}
 
--- the bytes begin with a header that holds this version
-pub record Header (s : List ℕ) (version : ℕ) : Type 0 where
-  pub present : 256 ≤ length s
-  pub marked : leAt 4 s 0x10 ≡ mark
-  pub holds : leAt 4 s 0x60 ≡ version
+abbrev pub mark : Field
+mark = field 4 0x10
 
--- a version is given exactly where a header holds it
-pub record VersionAcceptance : Type 0 where
-  pub only : (s : List ℕ) (version : ℕ) → versionOf s ≡ given version → Header s version
-  pub all : (s : List ℕ) (version : ℕ) → Header s version → versionOf s ≡ given version
+abbrev pub version : Field
+version = field 4 0x60
 
--- the answer depends on the header's bytes alone
-abbrev pub VersionIndependence : Type 0
-VersionIndependence = (s t : List ℕ) → 256 ≤ length s → 256 ≤ length t → ((j : ℕ) → j < 256 → getD s j 0 ≡ getD t j 0) → versionOf s ≡ versionOf t
+-- the header's bytes
+abbrev pub headerLength : ℕ
+headerLength = 256
+
+-- "$PS1", bytes 24 50 53 31, as the mark has it
+abbrev pub ps1 : ℕ
+ps1 = 0x3153_5024

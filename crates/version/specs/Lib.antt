@@ -1,2 +1,3 @@
-pub mod Version
 pub mod Header
+pub mod Version
+pub mod Good

@@ -19,14 +19,14 @@ use denote.Slice.{sliceTy, shr-slice-lawful}
 use Rattle.directory.specs.Directory.{toldDirectory}
 use Rattle.entries.specs.Entry.{toldEntry}
 use Rattle.entries.specs.Part.{toldPart, bytesOf, beginOf}
-use Rattle.directory.proofs.Checked as Checked
-use Rattle.directory.proofs.Checked.Laws as Checked′
-use Rattle.entries.proofs.Read as Read
-use Rattle.entries.proofs.Read.Laws as Read′
-use Rattle.entries.proofs.Placed as Placed
-use Rattle.entries.proofs.Placed.Laws as Placed′
-use Rattle.flash.specs.Flash.{base}
-use Rattle.place.specs.Place.{placedAt, entryAt, partAt, viewImage, viewPlace}
+use Rattle.directory.proofs.DirectoryAnswer as DirectoryAnswer
+use Rattle.directory.proofs.DirectoryAnswer.Laws as DirectoryAnswer′
+use Rattle.entries.proofs.EntryAnswer as EntryAnswer
+use Rattle.entries.proofs.EntryAnswer.Laws as EntryAnswer′
+use Rattle.entries.proofs.PartAnswer as PartAnswer
+use Rattle.entries.proofs.PartAnswer.Laws as PartAnswer′
+use Rattle.efs.specs.Rules.{baseRules}
+use Rattle.place.specs.Place.{checkAt, entryAt, partAt, viewImage, viewPlace}
 use Rattle.view.specs.declared.View.{View}
 
 pub record Result : Type 2 where
@@ -40,26 +40,26 @@ pub record Result : Type 2 where
 -- whatever the index
 abbrev pub directory : Result
 directory = record {
-  slot = plain (λ _. Checked.the-row);
-  ty = Checked′.mir;
-  typed = λ M 𝓤 H A W κs r u is. EL.lawful Checked.the-type Checked′.the-laws 𝓤 H A W tt .typed r _ is .0;
-  Said = λ image place i κs r. toldDirectory r ≡ placedAt base (now image) place;
+  slot = plain (λ _. DirectoryAnswer.the-row);
+  ty = DirectoryAnswer′.mir;
+  typed = λ M 𝓤 H A W κs r u is. EL.lawful DirectoryAnswer.the-type DirectoryAnswer′.the-laws 𝓤 H A W tt .typed r _ is .0;
+  Said = λ image place i κs r. toldDirectory r ≡ checkAt baseRules (now image) place;
 }
 
 abbrev pub entry : Result
 entry = record {
-  slot = plain (λ _. Read.the-row);
-  ty = Read′.mir;
-  typed = λ M 𝓤 H A W κs r u is. EL.lawful Read.the-type Read′.the-laws 𝓤 H A W tt .typed r _ is .0;
-  Said = λ image place i κs r. toldEntry r ≡ entryAt base (now image) place i;
+  slot = plain (λ _. EntryAnswer.the-row);
+  ty = EntryAnswer′.mir;
+  typed = λ M 𝓤 H A W κs r u is. EL.lawful EntryAnswer.the-type EntryAnswer′.the-laws 𝓤 H A W tt .typed r _ is .0;
+  Said = λ image place i κs r. toldEntry r ≡ entryAt baseRules (now image) place i;
 }
 
 abbrev pub part : Result
 part = record {
-  slot = plain (λ _. Placed.the-row);
-  ty = Placed′.mir;
-  typed = λ M 𝓤 H A W κs r u is. EL.lawful Placed.the-type Placed′.the-laws 𝓤 H A W tt .typed r _ is .0;
-  Said = λ image place i κs r. toldPart r ≡ partAt base (now image) place i;
+  slot = plain (λ _. PartAnswer.the-row);
+  ty = PartAnswer′.mir;
+  typed = λ M 𝓤 H A W κs r u is. EL.lawful PartAnswer.the-type PartAnswer′.the-laws 𝓤 H A W tt .typed r _ is .0;
+  Said = λ image place i κs r. toldPart r ≡ partAt baseRules (now image) place i;
 }
 
 abbrev pub bytes : Result
@@ -67,7 +67,7 @@ bytes = record {
   slot = SliceRef 0 tt u8 tt;
   ty = sliceTy (tyRef (named 0) imm (tyInt w8));
   typed = λ M 𝓤 H A W κs r u is. shr-slice-lawful 𝓤 H A W (named 0) (κs .0) u8 .typed r (u ∷ []) is .0;
-  Said = λ image place i κs r. (now r ≡ bytesOf (now image) (partAt base (now image) place i)) × (r .ptr ≡ beginOf (image .ptr) (partAt base (now image) place i));
+  Said = λ image place i κs r. (now r ≡ bytesOf (now image) (partAt baseRules (now image) place i)) × (r .ptr ≡ beginOf (image .ptr) (partAt baseRules (now image) place i));
 }
 
 -- a number's width, and what is said of a view that is made of an image and such a number
@@ -79,7 +79,7 @@ pub record Maker : Type 1 where
 abbrev pub of-level : Maker
 of-level = record {
   width = w32;
-  Made = λ s level d. (now (d .image) ≡ viewImage base level (now s)) × (d .image .ptr ≡ s .ptr) × (d .place ≡ viewPlace base level (now s));
+  Made = λ s level d. (now (d .image) ≡ viewImage baseRules level (now s)) × (d .image .ptr ≡ s .ptr) × (d .place ≡ viewPlace baseRules level (now s));
 }
 
 -- `view_at`, of a place

@@ -1,34 +1,35 @@
 // Views of a flash image's directories, in lent words. A view crosses the boundary as the lent image and a place.
 ghost use mathlib.Core.Path.{_≡_};
 ghost use Rattle.lent.specs.Lent.{numberLeft, wordsLeft};
-ghost use Rattle.flash.specs.Flash.{base, flashDirectory};
+ghost use Rattle.efs.specs.Rules.{baseRules};
+ghost use Rattle.flash.specs.Flash.{flashDirectory};
 ghost use Rattle.place.specs.Place.{entryAt, partAt};
-ghost use Rattle.image_words.specs.Images.{layEntry, layPart, layPlace};
-use directory::Checked;
-use entries::Placed;
-use entries::Read;
+ghost use Rattle.flash_words.specs.Images.{layEntry, layPart, layPlace};
+use directory::DirectoryAnswer;
+use entries::EntryAnswer;
+use entries::PartAnswer;
 
 // One word: the place that a view of the directory of a level keeps.
 pub fn view(image: &[u8], level: u32, words: &mut [u64]) -> u64
-    ensures { λ r. ⌜ r ≡ numberLeft layPlace (flashDirectory base level (now (image .entry))) (now (words .entry)) ⌝ }
-    ensures { λ _. ⌜ now (words .exit) ≡ wordsLeft layPlace (flashDirectory base level (now (image .entry))) (now (words .entry)) ⌝ }
+    ensures { λ r. ⌜ r ≡ numberLeft layPlace (flashDirectory baseRules level (now (image .entry))) (now (words .entry)) ⌝ }
+    ensures { λ _. ⌜ now (words .exit) ≡ wordsLeft layPlace (flashDirectory baseRules level (now (image .entry))) (now (words .entry)) ⌝ }
 {
     match flash::directory(image, level) {
-        Checked::Given(d) => {
+        DirectoryAnswer::Given(d) => {
             let values = [d.place.0 as u64];
             lent::put(words, 0, &values)
         }
-        Checked::Refused(why) => why.number as u64,
+        DirectoryAnswer::Refused(why) => why.number as u64,
     }
 }
 
 // Five words: type, subprogram, size, location and mode of entry i, from a view that holds the image and the place.
 pub fn entry(image: &[u8], place: usize, i: usize, words: &mut [u64]) -> u64
-    ensures { λ r. ⌜ r ≡ numberLeft layEntry (entryAt base (now (image .entry)) place i) (now (words .entry)) ⌝ }
-    ensures { λ _. ⌜ now (words .exit) ≡ wordsLeft layEntry (entryAt base (now (image .entry)) place i) (now (words .entry)) ⌝ }
+    ensures { λ r. ⌜ r ≡ numberLeft layEntry (entryAt baseRules (now (image .entry)) place i) (now (words .entry)) ⌝ }
+    ensures { λ _. ⌜ now (words .exit) ≡ wordsLeft layEntry (entryAt baseRules (now (image .entry)) place i) (now (words .entry)) ⌝ }
 {
     match view::entry_from(image, place, i) {
-        Read::Given(e) => {
+        EntryAnswer::Given(e) => {
             let values = [
                 e.class as u64,
                 e.subprogram as u64,
@@ -38,20 +39,20 @@ pub fn entry(image: &[u8], place: usize, i: usize, words: &mut [u64]) -> u64
             ];
             lent::put(words, 0, &values)
         }
-        Read::Refused(why) => why.number as u64,
+        EntryAnswer::Refused(why) => why.number as u64,
     }
 }
 
 // Two words: where the bytes of entry i begin in the image, and how many they are, from a view that holds the image and the place.
 pub fn part(image: &[u8], place: usize, i: usize, words: &mut [u64]) -> u64
-    ensures { λ r. ⌜ r ≡ numberLeft layPart (partAt base (now (image .entry)) place i) (now (words .entry)) ⌝ }
-    ensures { λ _. ⌜ now (words .exit) ≡ wordsLeft layPart (partAt base (now (image .entry)) place i) (now (words .entry)) ⌝ }
+    ensures { λ r. ⌜ r ≡ numberLeft layPart (partAt baseRules (now (image .entry)) place i) (now (words .entry)) ⌝ }
+    ensures { λ _. ⌜ now (words .exit) ≡ wordsLeft layPart (partAt baseRules (now (image .entry)) place i) (now (words .entry)) ⌝ }
 {
     match view::part_from(image, place, i) {
-        Placed::Given(p) => {
+        PartAnswer::Given(p) => {
             let values = [p.place as u64, p.length as u64];
             lent::put(words, 0, &values)
         }
-        Placed::Refused(why) => why.number as u64,
+        PartAnswer::Refused(why) => why.number as u64,
     }
 }

@@ -10,12 +10,13 @@ use Rattle.le.specs.Le.{leAt}
 use Rattle.reply.specs.Reply.{Reply, Carried, given, refused, alone, guard, then}
 use Rattle.reply.specs.Scan.{scan}
 use Rattle.reply.proofs.ReplyLaws.{clash}
-use Rattle.window.specs.Window.{offsetIn}
+use Rattle.window.specs.Window.{windowStart, offsetIn}
 use Rattle.window.specs.declared.Offset.{Offset}
-use Rattle.directory.specs.Directory.{cookieOf, totalAt, entryPlace, checksumAt, reservedZero, wellPlaced, mayRepeat, entryStep, directoryOf, entriesAt, directoryAt}
-use Rattle.entries.specs.Part.{within, leadsTo}
+use Rattle.directory.specs.Directory.{cookieOf, totalAt, entryPlace, checksumAt, classAt, reservedZero, mayStand, mayRepeat, entryStep, directoryOf, entriesAt, directoryAt}
+use Rattle.entries.specs.Part.{placeIn, leadsTo}
 use Rattle.directory.specs.declared.Kind.{Kind}
 use Rattle.directory.specs.declared.Directory.{Directory}
+use Rattle.efs.specs.declared.Rules.{Rules}
 use Rattle.entries.specs.declared.Entry.{Entry}
 use Rattle.flash.specs.Flash.{levelTwoAt}
 
@@ -49,18 +50,17 @@ module _ (kind : Kind) (limit level : ℕ) (s : List ℕ) (o : ℕ) where
   directory-alone =
       let n = totalAt s o in
       guard-alone (leb (o + 16) (length s)) _ _
-      (guard-alone (eqb (leAt 4 s o) (cookieOf kind level)) _ _
+      (guard-alone (eqb (leAt 4 s (o + 0)) (cookieOf kind level)) _ _
       (guard-alone (leb n limit) _ _
       (guard-alone (leb (entryPlace kind o n) (length s)) _ _
       (guard-alone (eqb (leAt 4 s (o + 4)) (checksumAt kind s o n)) _ _
       (guard-alone (eqb (leAt 4 s (o + 12)) 0) _ _
       (scan-alone (entryStep kind level s o) (λ _. given (directoryOf o level n))
-      (λ i rest h. guard-alone (reservedZero kind s (entryPlace kind o i)) _ _ (guard-alone (wellPlaced kind level s (entryPlace kind o i)) _ _ (guard-alone (mayRepeat kind s o i) _ _ h)))
+      (λ i rest h. guard-alone (reservedZero kind s o i) _ _ (guard-alone (mayStand kind level (classAt kind s o i)) _ _ (guard-alone (mayRepeat kind s o i) _ _ h)))
       (λ i. given-alone _) n 0))))))
 
 module _ (window : ℕ) (s : List ℕ) (o : ℕ) (e : Entry) where
-  within-alone : (x : ℕ) → Alone (within s x)
-  unfolding within
+  within-alone : (x : ℕ) → Alone (placeIn s x)
   within-alone x = guard-alone (leb x (length s)) _ _ (given-alone x)
 
   lead-alone : Alone (leadsTo window s o e)
@@ -68,10 +68,10 @@ module _ (window : ℕ) (s : List ℕ) (o : ℕ) (e : Entry) where
   lead-alone =
       guard-alone (not (eqb (e .mode) 3)) _ _
       (cond-alone (eqb (e .mode) 0) _ _
-      (then-alone (offsetIn window (e .location)) (λ a. within s (a .0))
-      (guard-alone (leb (0x1_0000_0000 - window) (e .location)) _ _ (guard-alone (leb (e .location) 0xFFFF_FFFF) _ _ (given-alone _)))
+      (then-alone (offsetIn window (e .location)) (λ a. placeIn s (a .0))
+      (guard-alone (leb (windowStart window) (e .location)) _ _ (guard-alone (leb (e .location) 0xFFFF_FFFF) _ _ (given-alone _)))
       (λ a. within-alone (a .0)))
       (cond-alone (eqb (e .mode) 1) _ _ (within-alone (e .location)) (within-alone (o + e .location))))
 
-pub level-alone : (kind : Kind) (limit window : ℕ) (s : List ℕ) (o : ℕ) (e : Entry) → Alone (levelTwoAt kind limit window s o e)
-level-alone kind limit window s o e = then-alone (leadsTo window s o e) (directoryAt kind limit 2 s) (lead-alone window s o e) (directory-alone kind limit 2 s)
+pub level-alone : (rules : Rules) (s : List ℕ) (o : ℕ) (e : Entry) → Alone (levelTwoAt rules s o e)
+level-alone rules s o e = then-alone (leadsTo (rules .window) s o e) (directoryAt (rules .kind) (rules .limit) 2 s) (lead-alone (rules .window) s o e) (directory-alone (rules .kind) (rules .limit) 2 s)

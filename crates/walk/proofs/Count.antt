@@ -9,6 +9,7 @@ use Rattle.reply.specs.Reply.{Reply, given, refused}
 use Rattle.entries.specs.Entry.{entryOf}
 use Rattle.directory.specs.declared.Kind.{Kind}
 use Rattle.directory.specs.declared.Directory.{Directory}
+use Rattle.efs.specs.declared.Rules.{Rules}
 use Rattle.entries.specs.declared.Entry.{Entry}
 use Rattle.flash.specs.Flash.{levelTwoAt}
 use Rattle.walk.specs.Walk.{Step, enter, test, fault, entriesFrom, walkedBy, belowOf, walkFrom, walkOf}
@@ -84,22 +85,22 @@ module _ (below : Entry → List Step) (kind : Kind) (s : List ℕ) (d : Directo
   unfolding Paid tests totals
   entered-whole = record { all = entries-all (d .total) 0; paid = let z : d .total ≡ 0 + d .total = omega arith in subst (λ (n : ℕ). Paid n (entriesFrom below kind s d (d .total) 0)) z (entries-paid (d .total) 0) }
 
-module _ (kind : Kind) (limit window : ℕ) (s : List ℕ) where
-  below-whole : (depth : ℕ) (d : Directory) (e : Entry) → Whole (belowOf depth kind limit window s d e)
+module _ (rules : Rules) (s : List ℕ) where
+  below-whole : (depth : ℕ) (d : Directory) (e : Entry) → Whole (belowOf depth rules s d e)
   unfolding belowOf Paid tests totals
   below-whole zero d e = record { all = refl; paid = tt }
-  below-whole (suc depth) d e = by (eqb (e .class) (kind .lead)) (levelTwoAt kind limit window s (d .place .0) e) (λ n. entered-whole (belowOf depth kind limit window s n) kind s n (below-whole depth n))
+  below-whole (suc depth) d e = by (eqb (e .class) (rules .kind .lead)) (levelTwoAt rules s (d .place .0) e) (λ n. entered-whole (belowOf depth rules s n) (rules .kind) s n (below-whole depth n))
     where
-      by : (b : Bool) (r : Reply Directory) → ((n : Directory) → Whole (walkOf depth kind limit window s n)) → Whole (cond b (walkedBy (walkOf depth kind limit window s) r) [])
+      by : (b : Bool) (r : Reply Directory) → ((n : Directory) → Whole (walkOf depth rules s n)) → Whole (cond b (walkedBy (walkOf depth rules s) r) [])
       by true (given n) g = g n
       by true (refused number carried) g = record { all = refl; paid = tt }
       by false r g = record { all = refl; paid = tt }
 
-  walk-is-whole : (depth : ℕ) (d : Directory) → Whole (walkOf depth kind limit window s d)
-  walk-is-whole depth d = entered-whole (belowOf depth kind limit window s d) kind s d (below-whole depth d)
+  walk-is-whole : (depth : ℕ) (d : Directory) → Whole (walkOf depth rules s d)
+  walk-is-whole depth d = entered-whole (belowOf depth rules s d) (rules .kind) s d (below-whole depth d)
 
 pub count-bound : CountBound
 count-bound = record {
-  within = λ depth kind limit window s d before after e. omega (arith, paid-split 0 before after (subst (Paid 0) e (walk-is-whole kind limit window s depth d .paid)));
-  whole = λ depth kind limit window s d. walk-is-whole kind limit window s depth d .all;
+  within = λ depth rules s d before after e. omega (arith, paid-split 0 before after (subst (Paid 0) e (walk-is-whole rules s depth d .paid)));
+  whole = λ depth rules s d. walk-is-whole rules s depth d .all;
 }

@@ -11,10 +11,11 @@ use Rattle.reply.specs.Reply.{Reply, Carried, given, refused, alone, tested}
 use Rattle.reply.specs.declared.Refusal.{Refusal}
 use Rattle.reply.proofs.ReplyLaws.{clash, then-given}
 use Rattle.directory.specs.Directory.{directoryAt}
-use Rattle.entries.specs.Entry.{entryOf, entryIn, matchOf}
+use Rattle.entries.specs.Entry.{entryOf, entryIn, matches}
 use Rattle.entries.specs.Part.{leadsTo}
 use Rattle.directory.specs.declared.Kind.{Kind}
 use Rattle.directory.specs.declared.Directory.{Directory}
+use Rattle.efs.specs.declared.Rules.{Rules}
 use Rattle.entries.specs.declared.Entry.{Entry}
 use Rattle.directory.proofs.Accept.{acceptance}
 use Rattle.entries.proofs.Accept.{all-entry}
@@ -22,7 +23,8 @@ use Rattle.flash.specs.Flash.{levelTwoAt}
 use Rattle.walk.specs.Walk.{Step, enter, test, fault, entriesFrom, walkedBy, belowOf, walkFrom, walkOf, firstIn}
 use Rattle.walk.specs.Probe.{entered, probed, probedBy, probeOf, isPass}
 use Rattle.walk.specs.First.{tests, matchIn}
-use Rattle.walk.specs.declared.Found.{Found}
+use Rattle.walk.specs.declared.ImageMatch.{ImageMatch}
+use Rattle.walk.specs.declared.Search.{Search}
 use Rattle.walk.specs.declared.Probe.{Probe}
 use Rattle.walk.specs.declared.Probe.the-variants as probe
 use Rattle.walk.proofs.Alone.{level-alone}
@@ -47,177 +49,181 @@ module _ (below : Entry → List Step) (kind : Kind) (s : List ℕ) (d : Directo
   plain-entries f zero i = tt
   plain-entries f (suc m) i = plain-append (below (entryOf kind s d i)) (entriesFrom below kind s d m (i + 1)) (f (entryOf kind s d i)) (plain-entries f m (i + 1))
 
-module _ (kind : Kind) (limit window : ℕ) (s : List ℕ) where
-  plain-below : (depth : ℕ) (d : Directory) (e : Entry) → Plain (belowOf depth kind limit window s d e)
+module _ (rules : Rules) (s : List ℕ) where
+  plain-below : (depth : ℕ) (d : Directory) (e : Entry) → Plain (belowOf depth rules s d e)
   unfolding Plain belowOf
   plain-below zero d e = tt
-  plain-below (suc depth) d e = by (eqb (e .class) (kind .lead)) (levelTwoAt kind limit window s (d .place .0) e) refl (λ n. plain-entries (belowOf depth kind limit window s n) kind s n (plain-below depth n) (n .total) 0)
+  plain-below (suc depth) d e = by (eqb (e .class) (rules .kind .lead)) (levelTwoAt rules s (d .place .0) e) refl (λ n. plain-entries (belowOf depth rules s n) (rules .kind) s n (plain-below depth n) (n .total) 0)
     where
-      by : (b : Bool) (r : Reply Directory) → levelTwoAt kind limit window s (d .place .0) e ≡ r → ((n : Directory) → Plain (walkFrom depth kind limit window s n (n .total) 0)) → Plain (cond b (walkedBy (walkOf depth kind limit window s) r) [])
+      by : (b : Bool) (r : Reply Directory) → levelTwoAt rules s (d .place .0) e ≡ r → ((n : Directory) → Plain (walkFrom depth rules s n (n .total) 0)) → Plain (cond b (walkedBy (walkOf depth rules s) r) [])
       by false r q f = tt
       by true (given n) q f = f n
-      by true (refused number carried) q f = (level-alone kind limit window s (d .place .0) e number carried q, tt)
+      by true (refused number carried) q f = (level-alone rules s (d .place .0) e number carried q, tt)
 
-  pub plain-walk : (depth : ℕ) (d : Directory) → Plain (walkOf depth kind limit window s d)
+  pub plain-walk : (depth : ℕ) (d : Directory) → Plain (walkOf depth rules s d)
   unfolding Plain
-  plain-walk depth d = plain-entries (belowOf depth kind limit window s d) kind s d (plain-below depth d) (d .total) 0
+  plain-walk depth d = plain-entries (belowOf depth rules s d) (rules .kind) s d (plain-below depth d) (d .total) 0
 
 -- the first match or fault in some steps, and what comes after them
-module _ (kind : Kind) (s : List ℕ) (type sub : ℕ) where
-  pub first-given : (xs ys : List Step) (t : ℕ) (f : Found) → firstIn kind s type sub xs t ≡ given f → firstIn kind s type sub (xs ++ ys) t ≡ given f
+module _ (kind : Kind) (s : List ℕ) (class sub : ℕ) where
+  pub first-given : (xs ys : List Step) (t : ℕ) (f : ImageMatch) → firstIn kind s class sub xs t ≡ given f → firstIn kind s class sub (xs ++ ys) t ≡ given f
   unfolding firstIn
   first-given [] ys t f e = clash e
   first-given (enter d ∷ xs) ys t f e = first-given xs ys t f e
-  first-given (test d i ∷ xs) ys t f e = by (matchOf (entryOf kind s d i) type sub) (first-given xs ys (t + 1) f) e
+  first-given (test d i ∷ xs) ys t f e = by (matches (entryOf kind s d i) class sub) (first-given xs ys (t + 1) f) e
     where
-      by : (b : Bool) → (firstIn kind s type sub xs (t + 1) ≡ given f → firstIn kind s type sub (xs ++ ys) (t + 1) ≡ given f) →
-          cond b (given (matchIn d i (t + 1))) (firstIn kind s type sub xs (t + 1)) ≡ given f → cond b (given (matchIn d i (t + 1))) (firstIn kind s type sub (xs ++ ys) (t + 1)) ≡ given f
+      by : (b : Bool) → (firstIn kind s class sub xs (t + 1) ≡ given f → firstIn kind s class sub (xs ++ ys) (t + 1) ≡ given f) →
+          cond b (given (matchIn d i (t + 1))) (firstIn kind s class sub xs (t + 1)) ≡ given f → cond b (given (matchIn d i (t + 1))) (firstIn kind s class sub (xs ++ ys) (t + 1)) ≡ given f
       by true h e = e
       by false h e = h e
   first-given (fault number carried ∷ xs) ys t f e = clash e
 
-  pub first-refused : (xs ys : List Step) (t n : ℕ) → firstIn kind s type sub xs t ≡ refused n alone → firstIn kind s type sub (xs ++ ys) t ≡ refused n alone
+  pub first-refused : (xs ys : List Step) (t n : ℕ) → firstIn kind s class sub xs t ≡ refused n alone → firstIn kind s class sub (xs ++ ys) t ≡ refused n alone
   unfolding firstIn
   first-refused [] ys t n e = absurd (let z : _≡_ {A = ℕ} 0 1 = cc in let f : ⊥ = omega arith in f)
   first-refused (enter d ∷ xs) ys t n e = first-refused xs ys t n e
-  first-refused (test d i ∷ xs) ys t n e = by (matchOf (entryOf kind s d i) type sub) (first-refused xs ys (t + 1) n) e
+  first-refused (test d i ∷ xs) ys t n e = by (matches (entryOf kind s d i) class sub) (first-refused xs ys (t + 1) n) e
     where
-      by : (b : Bool) → (firstIn kind s type sub xs (t + 1) ≡ refused n alone → firstIn kind s type sub (xs ++ ys) (t + 1) ≡ refused n alone) →
-          cond b (given (matchIn d i (t + 1))) (firstIn kind s type sub xs (t + 1)) ≡ refused n alone → cond b (given (matchIn d i (t + 1))) (firstIn kind s type sub (xs ++ ys) (t + 1)) ≡ refused n alone
+      by : (b : Bool) → (firstIn kind s class sub xs (t + 1) ≡ refused n alone → firstIn kind s class sub (xs ++ ys) (t + 1) ≡ refused n alone) →
+          cond b (given (matchIn d i (t + 1))) (firstIn kind s class sub xs (t + 1)) ≡ refused n alone → cond b (given (matchIn d i (t + 1))) (firstIn kind s class sub (xs ++ ys) (t + 1)) ≡ refused n alone
       by true h e = clash (sym e)
       by false h e = h e
   first-refused (fault number carried ∷ xs) ys t n e = e
 
-  pub first-absent : (xs ys : List Step) → Plain xs → (t n u : ℕ) → firstIn kind s type sub xs t ≡ refused n (tested u) → (firstIn kind s type sub (xs ++ ys) t ≡ firstIn kind s type sub ys u) × (u ≡ t + tests xs)
+  pub first-absent : (xs ys : List Step) → Plain xs → (t n u : ℕ) → firstIn kind s class sub xs t ≡ refused n (tested u) → (firstIn kind s class sub (xs ++ ys) t ≡ firstIn kind s class sub ys u) × (u ≡ t + tests xs)
   unfolding firstIn tests Plain
-  first-absent [] ys p t n u e = let q : t ≡ u = cc in (ap (firstIn kind s type sub ys) q, omega arith)
+  first-absent [] ys p t n u e = let q : t ≡ u = cc in (ap (firstIn kind s class sub ys) q, omega arith)
   first-absent (enter d ∷ xs) ys p t n u e = first-absent xs ys p t n u e
-  first-absent (test d i ∷ xs) ys p t n u e = by (matchOf (entryOf kind s d i) type sub) (first-absent xs ys p (t + 1) n u) e
+  first-absent (test d i ∷ xs) ys p t n u e = by (matches (entryOf kind s d i) class sub) (first-absent xs ys p (t + 1) n u) e
     where
-      by : (b : Bool) → (firstIn kind s type sub xs (t + 1) ≡ refused n (tested u) → (firstIn kind s type sub (xs ++ ys) (t + 1) ≡ firstIn kind s type sub ys u) × (u ≡ t + 1 + tests xs)) →
-          cond b (given (matchIn d i (t + 1))) (firstIn kind s type sub xs (t + 1)) ≡ refused n (tested u) →
-          (cond b (given (matchIn d i (t + 1))) (firstIn kind s type sub (xs ++ ys) (t + 1)) ≡ firstIn kind s type sub ys u) × (u ≡ t + (1 + tests xs))
+      by : (b : Bool) → (firstIn kind s class sub xs (t + 1) ≡ refused n (tested u) → (firstIn kind s class sub (xs ++ ys) (t + 1) ≡ firstIn kind s class sub ys u) × (u ≡ t + 1 + tests xs)) →
+          cond b (given (matchIn d i (t + 1))) (firstIn kind s class sub xs (t + 1)) ≡ refused n (tested u) →
+          (cond b (given (matchIn d i (t + 1))) (firstIn kind s class sub (xs ++ ys) (t + 1)) ≡ firstIn kind s class sub ys u) × (u ≡ t + (1 + tests xs))
       by true h e = clash (sym e)
       by false h e = let g = h e in (g .0, omega (arith, g .1))
   first-absent (fault number carried ∷ xs) ys p t n u e = let a = p .0 in absurd (let z : _≡_ {A = ℕ} 0 1 = cc in let f : ⊥ = omega arith in f)
 
 -- with no level left below, one test for each entry
-pub last-tests : (kind : Kind) (limit window : ℕ) (s : List ℕ) (d : Directory) (m i : ℕ) → tests (walkFrom 0 kind limit window s d m i) ≡ m
+pub last-tests : (rules : Rules) (s : List ℕ) (d : Directory) (m i : ℕ) → tests (walkFrom 0 rules s d m i) ≡ m
 unfolding tests entriesFrom belowOf
-last-tests kind limit window s d zero i = refl
-last-tests kind limit window s d (suc m) i = let e = last-tests kind limit window s d m (i + 1) in omega arith
+last-tests rules s d zero i = refl
+last-tests rules s d (suc m) i = let e = last-tests rules s d m (i + 1) in omega arith
 
 -- no entries
-pub walk-none : (depth : ℕ) (kind : Kind) (limit window : ℕ) (s : List ℕ) (d : Directory) (type sub m i t : ℕ) → m ≡ 0 → refused 8 (tested t) ≡ firstIn kind s type sub (walkFrom depth kind limit window s d m i) t
+pub walk-none : (depth : ℕ) (rules : Rules) (s : List ℕ) (d : Directory) (class sub m i t : ℕ) → m ≡ 0 → refused 8 (tested t) ≡ firstIn (rules .kind) s class sub (walkFrom depth rules s d m i) t
 unfolding entriesFrom firstIn
-walk-none depth kind limit window s d type sub m i t e = rw e
+walk-none depth rules s d class sub m i t e = rw e
+
+-- the search by these rules for this type and subprogram
+abbrev pub seek : Rules → ℕ → ℕ → Search
+seek rules class sub = record { rules = rules; class = class; sub = sub }
 
 -- what a probe of entry i tells
-data Probed (depth : ℕ) (kind : Kind) (limit window : ℕ) (s : List ℕ) (d : Directory) (type sub : ℕ) (e : Entry) : Probe → Type 0 where
-  is-match : matchOf e type sub ≡ true → Probed depth kind limit window s d type sub e probe.Match
-  is-pass : matchOf e type sub ≡ false → belowOf depth kind limit window s d e ≡ [] → Probed depth kind limit window s d type sub e probe.Pass
-  is-enter : {n : Directory} → matchOf e type sub ≡ false → 0 < depth → n .total ≤ limit → belowOf depth kind limit window s d e ≡ walkOf (depth - 1) kind limit window s n → Probed depth kind limit window s d type sub e (probe.Enter n)
-  is-fault : {why : Refusal} → matchOf e type sub ≡ false → belowOf depth kind limit window s d e ≡ fault (why .number) alone ∷ [] → Probed depth kind limit window s d type sub e (probe.Refused why)
+data Probed (depth : ℕ) (rules : Rules) (s : List ℕ) (d : Directory) (class sub : ℕ) (e : Entry) : Probe → Type 0 where
+  is-match : matches e class sub ≡ true → Probed depth rules s d class sub e probe.Match
+  is-pass : matches e class sub ≡ false → belowOf depth rules s d e ≡ [] → Probed depth rules s d class sub e probe.Pass
+  is-enter : {n : Directory} → matches e class sub ≡ false → 0 < depth → n .total ≤ (rules .limit) → belowOf depth rules s d e ≡ walkOf (depth - 1) rules s n → Probed depth rules s d class sub e (probe.Enter n)
+  is-fault : {why : Refusal} → matches e class sub ≡ false → belowOf depth rules s d e ≡ fault (why .number) alone ∷ [] → Probed depth rules s d class sub e (probe.Refused why)
 
-probed-is : (depth : ℕ) (kind : Kind) (limit window : ℕ) (s : List ℕ) (d : Directory) (type sub : ℕ) (e : Entry) → Probed depth kind limit window s d type sub e (probed depth kind limit window s d type sub e)
+probed-is : (depth : ℕ) (rules : Rules) (s : List ℕ) (d : Directory) (class sub : ℕ) (e : Entry) → Probed depth rules s d class sub e (probed depth (seek rules class sub) s d e)
 unfolding probed belowOf
-probed-is depth kind limit window s d type sub e = by (matchOf e type sub) refl depth
+probed-is depth rules s d class sub e = by (matches e class sub) refl depth
   where
-    few : (n : Directory) → levelTwoAt kind limit window s (d .place .0) e ≡ given n → n .total ≤ limit
+    few : (n : Directory) → levelTwoAt rules s (d .place .0) e ≡ given n → n .total ≤ (rules .limit)
     few n q =
-        let t = then-given (leadsTo window s (d .place .0) e) (directoryAt kind limit 2 s) q in
-        acceptance .only kind limit 2 s (t .0) n (t .2) .0 .few
+        let t = then-given (leadsTo (rules .window) s (d .place .0) e) (directoryAt (rules .kind) (rules .limit) 2 s) q in
+        acceptance .only (rules .kind) (rules .limit) 2 s (t .0) n (t .2) .0 .few
 
-    down : (l : ℕ) (b : Bool) (r : Reply Directory) → eqb (e .class) (kind .lead) ≡ b → levelTwoAt kind limit window s (d .place .0) e ≡ r → matchOf e type sub ≡ false →
-        Probed (suc l) kind limit window s d type sub e (cond b (entered r) probe.Pass)
+    down : (l : ℕ) (b : Bool) (r : Reply Directory) → eqb (e .class) (rules .kind .lead) ≡ b → levelTwoAt rules s (d .place .0) e ≡ r → matches e class sub ≡ false →
+        Probed (suc l) rules s d class sub e (cond b (entered r) probe.Pass)
     down l true (given n) q w m = let z : suc l - 1 ≡ l = omega arith in is-enter {n = n} m (omega arith) (few n w) (rw (q, w, z))
-    down l true (refused number carried) q w m = let a = level-alone kind limit window s (d .place .0) e number carried w in is-fault {why = record { number = number }} m (rw (q, w, a))
+    down l true (refused number carried) q w m = let a = level-alone rules s (d .place .0) e number carried w in is-fault {why = record { number = number }} m (rw (q, w, a))
     down l false r q w m = is-pass m (rw q)
 
-    last : (b : Bool) → matchOf e type sub ≡ false → Probed 0 kind limit window s d type sub e (cond b probe.Pass probe.Pass)
+    last : (b : Bool) → matches e class sub ≡ false → Probed 0 rules s d class sub e (cond b probe.Pass probe.Pass)
     last true m = is-pass m refl
     last false m = is-pass m refl
 
-    by : (b : Bool) → matchOf e type sub ≡ b → (l : ℕ) →
-        Probed l kind limit window s d type sub e (cond b probe.Match (cond (eqb (e .class) (kind .lead)) (cond (eqb l 0) probe.Pass (entered (levelTwoAt kind limit window s (d .place .0) e))) probe.Pass))
+    by : (b : Bool) → matches e class sub ≡ b → (l : ℕ) →
+        Probed l rules s d class sub e (cond b probe.Match (cond (eqb (e .class) (rules .kind .lead)) (cond (eqb l 0) probe.Pass (entered (levelTwoAt rules s (d .place .0) e))) probe.Pass))
     by true m l = is-match m
-    by false m zero = last (eqb (e .class) (kind .lead)) m
-    by false m (suc l) = rw (eqb·suc-zero l) (down l (eqb (e .class) (kind .lead)) (levelTwoAt kind limit window s (d .place .0) e) refl refl m)
+    by false m zero = last (eqb (e .class) (rules .kind .lead)) m
+    by false m (suc l) = rw (eqb·suc-zero l) (down l (eqb (e .class) (rules .kind .lead)) (levelTwoAt rules s (d .place .0) e) refl refl m)
 
 -- the walk of the last `left` entries of a directory, by what the probe of the first of them says
-module _ (depth : ℕ) (kind : Kind) (limit window : ℕ) (s : List ℕ) (d : Directory) (type sub left t : ℕ) (some : 0 < left) (few : left ≤ d .total) where
+module _ (depth : ℕ) (rules : Rules) (s : List ℕ) (d : Directory) (class sub left t : ℕ) (some : 0 < left) (few : left ≤ d .total) where
   index : ℕ
   index = d .total - left
 
   here : Entry
-  here = entryOf kind s d (d .total - left)
+  here = entryOf (rules .kind) s d (d .total - left)
 
   rest : List Step
-  rest = walkFrom depth kind limit window s d (left - 1) (d .total - (left - 1))
+  rest = walkFrom depth rules s d (left - 1) (d .total - (left - 1))
 
-  step : firstIn kind s type sub (walkFrom depth kind limit window s d left (d .total - left)) t
-      ≡ cond (matchOf here type sub) (given (matchIn d (d .total - left) (t + 1))) (firstIn kind s type sub (belowOf depth kind limit window s d here ++ rest) (t + 1))
+  step : firstIn (rules .kind) s class sub (walkFrom depth rules s d left (d .total - left)) t
+      ≡ cond (matches here class sub) (given (matchIn d (d .total - left) (t + 1))) (firstIn (rules .kind) s class sub (belowOf depth rules s d here ++ rest) (t + 1))
   unfolding entriesFrom firstIn here rest
   step =
       let a : left ≡ suc (left - 1) = omega arith in
       let b : d .total - left + 1 ≡ d .total - (left - 1) = omega arith in
-      ap (λ (m : ℕ). firstIn kind s type sub (walkFrom depth kind limit window s d m (d .total - left)) t) a
-      ∙ ap (λ (j : ℕ). cond (matchOf here type sub) (given (matchIn d (d .total - left) (t + 1))) (firstIn kind s type sub (belowOf depth kind limit window s d here ++ walkFrom depth kind limit window s d (left - 1) j) (t + 1))) b
+      ap (λ (m : ℕ). firstIn (rules .kind) s class sub (walkFrom depth rules s d m (d .total - left)) t) a
+      ∙ ap (λ (j : ℕ). cond (matches here class sub) (given (matchIn d (d .total - left) (t + 1))) (firstIn (rules .kind) s class sub (belowOf depth rules s d here ++ walkFrom depth rules s d (left - 1) j) (t + 1))) b
 
-  told : (q : Probe) → q ≡ probeOf depth kind limit window s d type sub (d .total - left) → Probed depth kind limit window s d type sub here q
+  told : (q : Probe) → q ≡ probeOf depth (seek rules class sub) s d (d .total - left) → Probed depth rules s d class sub here q
   unfolding here
   told q e =
-      let r = all-entry kind s d (d .total - left) (omega arith) in
-      subst (Probed depth kind limit window s d type sub here) (sym (e ∙ ap (probedBy (probed depth kind limit window s d type sub)) r)) (probed-is depth kind limit window s d type sub here)
+      let r = all-entry (rules .kind) s d (d .total - left) (omega arith) in
+      subst (Probed depth rules s d class sub here) (sym (e ∙ ap (probedBy (probed depth (seek rules class sub) s d)) r)) (probed-is depth rules s d class sub here)
 
-  pub by-match : probe.Match ≡ probeOf depth kind limit window s d type sub (d .total - left) → given (matchIn d (d .total - left) (t + 1)) ≡ firstIn kind s type sub (walkFrom depth kind limit window s d left (d .total - left)) t
+  pub by-match : probe.Match ≡ probeOf depth (seek rules class sub) s d (d .total - left) → given (matchIn d (d .total - left) (t + 1)) ≡ firstIn (rules .kind) s class sub (walkFrom depth rules s d left (d .total - left)) t
   by-match e = by (told probe.Match e)
     where
-      by : Probed depth kind limit window s d type sub here probe.Match → given (matchIn d (d .total - left) (t + 1)) ≡ firstIn kind s type sub (walkFrom depth kind limit window s d left (d .total - left)) t
+      by : Probed depth rules s d class sub here probe.Match → given (matchIn d (d .total - left) (t + 1)) ≡ firstIn (rules .kind) s class sub (walkFrom depth rules s d left (d .total - left)) t
       by (is-match m) = sym (rw m at step)
 
-  pub by-pass : probe.Pass ≡ probeOf depth kind limit window s d type sub (d .total - left) →
-      firstIn kind s type sub (walkFrom depth kind limit window s d (left - 1) (d .total - (left - 1))) (t + 1) ≡ firstIn kind s type sub (walkFrom depth kind limit window s d left (d .total - left)) t
+  pub by-pass : probe.Pass ≡ probeOf depth (seek rules class sub) s d (d .total - left) →
+      firstIn (rules .kind) s class sub (walkFrom depth rules s d (left - 1) (d .total - (left - 1))) (t + 1) ≡ firstIn (rules .kind) s class sub (walkFrom depth rules s d left (d .total - left)) t
   unfolding rest
   by-pass e = by (told probe.Pass e)
     where
-      by : Probed depth kind limit window s d type sub here probe.Pass →
-          firstIn kind s type sub (walkFrom depth kind limit window s d (left - 1) (d .total - (left - 1))) (t + 1) ≡ firstIn kind s type sub (walkFrom depth kind limit window s d left (d .total - left)) t
+      by : Probed depth rules s d class sub here probe.Pass →
+          firstIn (rules .kind) s class sub (walkFrom depth rules s d (left - 1) (d .total - (left - 1))) (t + 1) ≡ firstIn (rules .kind) s class sub (walkFrom depth rules s d left (d .total - left)) t
       by (is-pass m b) = sym (rw (m, b) at step)
 
-  pub by-fault : (why : Refusal) → probe.Refused why ≡ probeOf depth kind limit window s d type sub (d .total - left) →
-      refused (why .number) alone ≡ firstIn kind s type sub (walkFrom depth kind limit window s d left (d .total - left)) t
+  pub by-fault : (why : Refusal) → probe.Refused why ≡ probeOf depth (seek rules class sub) s d (d .total - left) →
+      refused (why .number) alone ≡ firstIn (rules .kind) s class sub (walkFrom depth rules s d left (d .total - left)) t
   unfolding firstIn
   by-fault why e = by (told (probe.Refused why) e)
     where
-      by : Probed depth kind limit window s d type sub here (probe.Refused why) → refused (why .number) alone ≡ firstIn kind s type sub (walkFrom depth kind limit window s d left (d .total - left)) t
+      by : Probed depth rules s d class sub here (probe.Refused why) → refused (why .number) alone ≡ firstIn (rules .kind) s class sub (walkFrom depth rules s d left (d .total - left)) t
       by (is-fault m b) = sym (rw (m, b) at step)
 
-  module _ (n : Directory) (e : probe.Enter n ≡ probeOf depth kind limit window s d type sub (d .total - left)) where
-    pub enter-facts : (0 < depth) × (n .total ≤ limit)
+  module _ (n : Directory) (e : probe.Enter n ≡ probeOf depth (seek rules class sub) s d (d .total - left)) where
+    pub enter-facts : (0 < depth) × (n .total ≤ (rules .limit))
     enter-facts = by (told (probe.Enter n) e)
       where
-        by : Probed depth kind limit window s d type sub here (probe.Enter n) → (0 < depth) × (n .total ≤ limit)
+        by : Probed depth rules s d class sub here (probe.Enter n) → (0 < depth) × (n .total ≤ (rules .limit))
         by (is-enter m h f b) = (h, f)
 
-    below : firstIn kind s type sub (walkFrom depth kind limit window s d left (d .total - left)) t ≡ firstIn kind s type sub (walkOf (depth - 1) kind limit window s n ++ rest) (t + 1)
+    below : firstIn (rules .kind) s class sub (walkFrom depth rules s d left (d .total - left)) t ≡ firstIn (rules .kind) s class sub (walkOf (depth - 1) rules s n ++ rest) (t + 1)
     below = by (told (probe.Enter n) e)
       where
-        by : Probed depth kind limit window s d type sub here (probe.Enter n) →
-            firstIn kind s type sub (walkFrom depth kind limit window s d left (d .total - left)) t ≡ firstIn kind s type sub (walkOf (depth - 1) kind limit window s n ++ rest) (t + 1)
+        by : Probed depth rules s d class sub here (probe.Enter n) →
+            firstIn (rules .kind) s class sub (walkFrom depth rules s d left (d .total - left)) t ≡ firstIn (rules .kind) s class sub (walkOf (depth - 1) rules s n ++ rest) (t + 1)
         by (is-enter m h f b) = rw (m, b) at step
 
-    pub enter-given : (f : Found) → given f ≡ firstIn kind s type sub (walkOf (depth - 1) kind limit window s n) (t + 1) → given f ≡ firstIn kind s type sub (walkFrom depth kind limit window s d left (d .total - left)) t
-    enter-given f h = sym (below ∙ first-given kind s type sub (walkOf (depth - 1) kind limit window s n) rest (t + 1) f (sym h))
+    pub enter-given : (f : ImageMatch) → given f ≡ firstIn (rules .kind) s class sub (walkOf (depth - 1) rules s n) (t + 1) → given f ≡ firstIn (rules .kind) s class sub (walkFrom depth rules s d left (d .total - left)) t
+    enter-given f h = sym (below ∙ first-given (rules .kind) s class sub (walkOf (depth - 1) rules s n) rest (t + 1) f (sym h))
 
-    pub enter-refused : (w : ℕ) → refused w alone ≡ firstIn kind s type sub (walkOf (depth - 1) kind limit window s n) (t + 1) → refused w alone ≡ firstIn kind s type sub (walkFrom depth kind limit window s d left (d .total - left)) t
-    enter-refused w h = sym (below ∙ first-refused kind s type sub (walkOf (depth - 1) kind limit window s n) rest (t + 1) w (sym h))
+    pub enter-refused : (w : ℕ) → refused w alone ≡ firstIn (rules .kind) s class sub (walkOf (depth - 1) rules s n) (t + 1) → refused w alone ≡ firstIn (rules .kind) s class sub (walkFrom depth rules s d left (d .total - left)) t
+    enter-refused w h = sym (below ∙ first-refused (rules .kind) s class sub (walkOf (depth - 1) rules s n) rest (t + 1) w (sym h))
 
-    module _ (u : ℕ) (h : refused 8 (tested u) ≡ firstIn kind s type sub (walkOf (depth - 1) kind limit window s n) (t + 1)) where
-      ended : (firstIn kind s type sub (walkOf (depth - 1) kind limit window s n ++ rest) (t + 1) ≡ firstIn kind s type sub rest u) × (u ≡ t + 1 + tests (walkOf (depth - 1) kind limit window s n))
-      ended = first-absent kind s type sub (walkOf (depth - 1) kind limit window s n) rest (plain-walk kind limit window s (depth - 1) n) (t + 1) 8 u (sym h)
+    module _ (u : ℕ) (h : refused 8 (tested u) ≡ firstIn (rules .kind) s class sub (walkOf (depth - 1) rules s n) (t + 1)) where
+      ended : (firstIn (rules .kind) s class sub (walkOf (depth - 1) rules s n ++ rest) (t + 1) ≡ firstIn (rules .kind) s class sub rest u) × (u ≡ t + 1 + tests (walkOf (depth - 1) rules s n))
+      ended = first-absent (rules .kind) s class sub (walkOf (depth - 1) rules s n) rest (plain-walk rules s (depth - 1) n) (t + 1) 8 u (sym h)
 
-      pub enter-absent : firstIn kind s type sub (walkFrom depth kind limit window s d (left - 1) (d .total - (left - 1))) u ≡ firstIn kind s type sub (walkFrom depth kind limit window s d left (d .total - left)) t
+      pub enter-absent : firstIn (rules .kind) s class sub (walkFrom depth rules s d (left - 1) (d .total - (left - 1))) u ≡ firstIn (rules .kind) s class sub (walkFrom depth rules s d left (d .total - left)) t
       unfolding rest
       enter-absent = sym (below ∙ ended .0)
 
@@ -225,14 +231,14 @@ module _ (depth : ℕ) (kind : Kind) (limit window : ℕ) (s : List ℕ) (d : Di
       unfolding tests
       enter-count one =
           let z : depth - 1 ≡ 0 = omega arith in
-          let c : tests (walkFrom (depth - 1) kind limit window s n (n .total) 0) ≡ n .total = rw z (last-tests kind limit window s n (n .total) 0) in
+          let c : tests (walkFrom (depth - 1) rules s n (n .total) 0) ≡ n .total = rw z (last-tests rules s n (n .total) 0) in
           omega (arith, ended .1, c)
 
 -- all entries of a directory that is entered
-pub walk-whole : (depth : ℕ) (kind : Kind) (limit window : ℕ) (s : List ℕ) (d : Directory) (type sub t : ℕ) →
-    firstIn kind s type sub (walkFrom depth kind limit window s d (d .total) (d .total - d .total)) t ≡ firstIn kind s type sub (walkOf depth kind limit window s d) t
+pub walk-whole : (depth : ℕ) (rules : Rules) (s : List ℕ) (d : Directory) (class sub t : ℕ) →
+    firstIn (rules .kind) s class sub (walkFrom depth rules s d (d .total) (d .total - d .total)) t ≡ firstIn (rules .kind) s class sub (walkOf depth rules s d) t
 unfolding firstIn
-walk-whole depth kind limit window s d type sub t = let z : d .total - d .total ≡ 0 = omega arith in ap (λ (i : ℕ). firstIn kind s type sub (walkFrom depth kind limit window s d (d .total) i) t) z
+walk-whole depth rules s d class sub t = let z : d .total - d .total ≡ 0 = omega arith in ap (λ (i : ℕ). firstIn (rules .kind) s class sub (walkFrom depth rules s d (d .total) i) t) z
 
 -- an entry that is passed by, as the tests of its two bytes tell it
 pass-cases : (b1 b2 b3 : Bool) (r : Reply Directory) → isPass (cond b1 probe.Match (cond b2 (cond b3 probe.Pass (entered r)) probe.Pass)) ≡ cond b1 false (cond b2 b3 true)
@@ -242,12 +248,12 @@ pass-cases false true true r = refl
 pass-cases false true false (given n) = refl
 pass-cases false true false (refused number carried) = refl
 
-pub pass-is : (depth : ℕ) (kind : Kind) (limit window : ℕ) (s : List ℕ) (d : Directory) (type sub i : ℕ) → i < d .total →
-    isPass (probeOf depth kind limit window s d type sub i) ≡ cond (matchOf (entryOf kind s d i) type sub) false (cond (eqb (entryOf kind s d i .class) (kind .lead)) (eqb depth 0) true)
+pub pass-is : (depth : ℕ) (rules : Rules) (s : List ℕ) (d : Directory) (class sub i : ℕ) → i < d .total →
+    isPass (probeOf depth (seek rules class sub) s d i) ≡ cond (matches (entryOf (rules .kind) s d i) class sub) false (cond (eqb (entryOf (rules .kind) s d i .class) (rules .kind .lead)) (eqb depth 0) true)
 unfolding probed
-pass-is depth kind limit window s d type sub i h =
-    ap (λ (r : Reply Entry). isPass (probedBy (probed depth kind limit window s d type sub) r)) (all-entry kind s d i h)
-    ∙ pass-cases (matchOf (entryOf kind s d i) type sub) (eqb (entryOf kind s d i .class) (kind .lead)) (eqb depth 0) (levelTwoAt kind limit window s (d .place .0) (entryOf kind s d i))
+pass-is depth rules s d class sub i h =
+    ap (λ (r : Reply Entry). isPass (probedBy (probed depth (seek rules class sub) s d) r)) (all-entry (rules .kind) s d i h)
+    ∙ pass-cases (matches (entryOf (rules .kind) s d i) class sub) (eqb (entryOf (rules .kind) s d i .class) (rules .kind .lead)) (eqb depth 0) (levelTwoAt rules s (d .place .0) (entryOf (rules .kind) s d i))
 
 not-true : false ≡ true → ⊥
 not-true e = let z : _≡_ {A = ℕ} 0 1 = ap (λ (b : Bool). cond b 1 0) e in omega (arith, z)

@@ -5,11 +5,12 @@ use mathlib.Core.Bool.{Bool, true, false, cond}
 use lib.ListN.{length}
 use lib.Dec.{eqb}
 use Rattle.reply.specs.Reply.{Reply, given, refused}
-use Rattle.entries.specs.Entry.{entryIn, matchOf}
-use Rattle.directory.specs.declared.Kind.{Kind}
+use Rattle.entries.specs.Entry.{entryIn, matches}
 use Rattle.directory.specs.declared.Directory.{Directory}
 use Rattle.entries.specs.declared.Entry.{Entry}
 use Rattle.flash.specs.Flash.{levelTwoAt}
+use Rattle.efs.specs.Rules.{longest}
+use Rattle.walk.specs.declared.Search.{Search}
 use Rattle.walk.specs.declared.Probe.{Probe}
 use Rattle.walk.specs.declared.Probe.the-variants as probe
 
@@ -19,19 +20,19 @@ entered (given n) = probe.Enter n
 entered (refused number carried) = probe.Refused (record { number = number })
 
 -- an entry that was read, tested: a match, a directory to enter if levels are left, or to be passed over
-unfoldable pub probed : ℕ → Kind → ℕ → ℕ → List ℕ → Directory → ℕ → ℕ → Entry → Probe
-probed depth kind limit window image d type sub e =
-    cond (matchOf e type sub) probe.Match
-    (cond (eqb (e .class) (kind .lead)) (cond (eqb depth 0) probe.Pass (entered (levelTwoAt kind limit window image (d .place .0) e))) probe.Pass)
+unfoldable pub probed : (depth : ℕ) → Search → (image : List ℕ) → Directory → Entry → Probe
+probed depth by image d e =
+    cond (matches e (by .class) (by .sub)) probe.Match
+    (cond (eqb (e .class) (by .rules .kind .lead)) (cond (eqb depth 0) probe.Pass (entered (levelTwoAt (by .rules) image (d .place .0) e))) probe.Pass)
 
 -- the same of an entry to be read
-abbrev pub probedBy : (Entry → Probe) → Reply Entry → Probe
+abbrev pub probedBy : (test : Entry → Probe) → Reply Entry → Probe
 probedBy test (given e) = test e
 probedBy test (refused number carried) = probe.Refused (record { number = number })
 
 -- entry i of a directory
-abbrev pub probeOf : ℕ → Kind → ℕ → ℕ → List ℕ → Directory → ℕ → ℕ → ℕ → Probe
-probeOf depth kind limit window image d type sub i = probedBy (probed depth kind limit window image d type sub) (entryIn kind image d i)
+abbrev pub probeOf : (depth : ℕ) → Search → (image : List ℕ) → Directory → (i : ℕ) → Probe
+probeOf depth by image d i = probedBy (probed depth by image d) (entryIn (by .rules .kind) image d i)
 
 -- an entry that is passed by
 abbrev pub isPass : Probe → Bool
@@ -43,7 +44,7 @@ isPass (probe.Refused why) = false
 -- what keeps the numbers of a walk small: the image's length, two levels, 512 entries in each directory, and so the count
 pub record Small (image : List ℕ) (limit depth total left tested : ℕ) : Type 0 where
   pub from : 1 ≤ length image
-  pub to : length image ≤ 16_777_216
+  pub to : length image ≤ longest
   pub most : limit ≤ 512
   pub levels : depth ≤ 1
   pub few : total ≤ 512

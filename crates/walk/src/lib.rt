@@ -3,20 +3,20 @@ ghost use mathlib.Core.Path.{_≡_};
 ghost use Prim.Native.Nat.{_+_, _-_, _<_, _≤_};
 ghost use lib.ListN.{length};
 ghost use Rattle.reply.specs.Reply.{refused, alone};
-ghost use Rattle.flash.specs.Flash.{base, levelTwoAt, fromLookup};
-ghost use Rattle.walk.specs.Walk.{walkFrom, walkOf, firstIn, findImage, toldFound};
+ghost use Rattle.efs.specs.Rules.{baseRules, longest};
+ghost use Rattle.flash.specs.Flash.{levelTwoAt, fromLookup};
+ghost use Rattle.walk.specs.Walk.{walkFrom, walkOf, firstIn, findImage, toldImageMatch};
 ghost use Rattle.walk.specs.Probe.{entered, probed, probeOf, isPass, Small};
-use directory::Checked;
 use directory::Directory;
-use directory::Kind;
+use directory::DirectoryAnswer;
+use efs::Rules;
 use entries::Entry;
-use entries::Read;
+use entries::EntryAnswer;
 use reply::Refusal;
 use window::Offset;
-use window::Physical;
 
 // A match in a whole image: its directory's place and level, its index, and the number of entries tested.
-pub struct Found {
+pub struct ImageMatch {
     pub place: Offset,
     pub level: u32,
     pub index: u32,
@@ -24,8 +24,8 @@ pub struct Found {
 }
 
 // What the lookup answers: a match, how many entries were tested where none matches, or the first fault.
-pub enum Walked {
-    Given(Found),
+pub enum ImageMatchAnswer {
+    Given(ImageMatch),
     Absent(u32),
     Refused(Refusal),
 }
@@ -38,36 +38,34 @@ enum Probe {
     Refused(Refusal),
 }
 
-// What a walk goes by: the kind of directory, the largest total of one, the window's bytes, and the type and subprogram looked for.
+// What a walk goes by: the rules of the image, and the type and subprogram looked for.
 struct Search {
-    kind: Kind,
-    limit: u32,
-    window: u32,
+    rules: Rules,
     class: u8,
     sub: u8,
 }
 
 // What an entry that does not match leads to.
 fn enter(image: &[u8], by: Search, d: Directory, e: Entry) -> Probe
-    requires { ⌜ (1 ≤ length (now image)) × (length (now image) ≤ 16777216) ⌝ }
-    ensures { λ r. ⌜ r ≡ entered (levelTwoAt (by .kind) (by .limit) (by .window) (now (image .entry)) (d .place .0) e) ⌝ }
+    requires { ⌜ (1 ≤ length (now image)) × (length (now image) ≤ longest) ⌝ }
+    ensures { λ r. ⌜ r ≡ entered (levelTwoAt (by .rules) (now (image .entry)) (d .place .0) e) ⌝ }
 {
-    match flash::level_two_at(image, by.kind, by.limit, by.window, d.place, e) {
-        Checked::Given(n) => Probe::Enter(n),
-        Checked::Refused(why) => Probe::Refused(why),
+    match flash::level_two_at(image, by.rules, d.place, e) {
+        DirectoryAnswer::Given(n) => Probe::Enter(n),
+        DirectoryAnswer::Refused(why) => Probe::Refused(why),
     }
 }
 
 // An entry, tested.
 fn tested_entry(image: &[u8], by: Search, d: Directory, depth: u32, e: Entry) -> Probe
-    requires { ⌜ (1 ≤ length (now image)) × (length (now image) ≤ 16777216) ⌝ }
-    ensures { λ r. ⌜ r ≡ probed depth (by .kind) (by .limit) (by .window) (now (image .entry)) d (by .class) (by .sub) e ⌝ }
+    requires { ⌜ (1 ≤ length (now image)) × (length (now image) ≤ longest) ⌝ }
+    ensures { λ r. ⌜ r ≡ probed depth by (now (image .entry)) d e ⌝ }
 {
     if entries::matches(e, by.class, by.sub) {
         return Probe::Match;
     }
-    let kind = by.kind;
-    if e.class != kind.lead {
+    let rules = by.rules;
+    if e.class != rules.kind.lead {
         return Probe::Pass;
     }
     if depth == 0 {
@@ -78,25 +76,25 @@ fn tested_entry(image: &[u8], by: Search, d: Directory, depth: u32, e: Entry) ->
 
 // Entry i of a directory, tested.
 fn probe_entry(image: &[u8], by: Search, d: Directory, depth: u32, i: u32) -> Probe
-    requires { ⌜ (1 ≤ length (now image)) × (length (now image) ≤ 16777216) ⌝ }
-    ensures { λ r. ⌜ r ≡ probeOf depth (by .kind) (by .limit) (by .window) (now (image .entry)) d (by .class) (by .sub) i ⌝ }
+    requires { ⌜ (1 ≤ length (now image)) × (length (now image) ≤ longest) ⌝ }
+    ensures { λ r. ⌜ r ≡ probeOf depth by (now (image .entry)) d i ⌝ }
 {
-    match entries::entry_in(image, by.kind, d, i as usize) {
-        Read::Given(e) => tested_entry(image, by, d, depth, e),
-        Read::Refused(why) => Probe::Refused(why),
+    match entries::entry_in(image, by.rules.kind, d, i as usize) {
+        EntryAnswer::Given(e) => tested_entry(image, by, d, depth, e),
+        EntryAnswer::Refused(why) => Probe::Refused(why),
     }
 }
 
 // Is entry i of a directory passed by? Two bytes tell.
 fn passes(image: &[u8], by: Search, d: Directory, depth: u32, i: u32) -> bool
     requires { ⌜ i < d .total ⌝ }
-    ensures { λ r. ⌜ r ≡ isPass (probeOf depth (by .kind) (by .limit) (by .window) (now (image .entry)) d (by .class) (by .sub) i) ⌝ }
+    ensures { λ r. ⌜ r ≡ isPass (probeOf depth by (now (image .entry)) d i) ⌝ }
 {
-    let kind = by.kind;
+    let kind = by.rules.kind;
     if entries::entry_matches(image, kind, d.place, i, by.class, by.sub) {
         return false;
     }
-    if entries::class_of(image, kind, d.place, i) == kind.lead {
+    if entries::class_at(image, kind, d.place, i) == kind.lead {
         return depth == 0;
     }
     true
@@ -105,7 +103,7 @@ fn passes(image: &[u8], by: Search, d: Directory, depth: u32, i: u32) -> bool
 // Passes entries by: how many of the last entries of a directory are left where one is not passed by.
 fn pass_by(image: &[u8], by: Search, d: Directory, depth: u32, left: u32, tested: u32) -> u32
     requires { ⌜ left ≤ d .total ⌝ }
-    ensures { λ r. ⌜ (r ≤ left) × (firstIn (by .kind) (now (image .entry)) (by .class) (by .sub) (walkFrom depth (by .kind) (by .limit) (by .window) (now (image .entry)) d r (d .total - r)) (tested + (left - r)) ≡ firstIn (by .kind) (now (image .entry)) (by .class) (by .sub) (walkFrom depth (by .kind) (by .limit) (by .window) (now (image .entry)) d left (d .total - left)) tested) ⌝ }
+    ensures { λ r. ⌜ (r ≤ left) × (firstIn (by .rules .kind) (now (image .entry)) (by .class) (by .sub) (walkFrom depth (by .rules) (now (image .entry)) d r (d .total - r)) (tested + (left - r)) ≡ firstIn (by .rules .kind) (now (image .entry)) (by .class) (by .sub) (walkFrom depth (by .rules) (now (image .entry)) d left (d .total - left)) tested) ⌝ }
 {
     let mut rest = left;
     while 0 < rest {
@@ -119,28 +117,41 @@ fn pass_by(image: &[u8], by: Search, d: Directory, depth: u32, left: u32, tested
 }
 
 // The walk of a directory, with so many levels left below it, after so many entries tested.
-fn walk_directory(image: &[u8], by: Search, d: Directory, depth: u32, tested: u32) -> Walked
-    requires { ⌜ Small (now image) (by .limit) depth (d .total) (d .total) tested ⌝ }
-    ensures { λ r. ⌜ toldFound r ≡ firstIn (by .kind) (now (image .entry)) (by .class) (by .sub) (walkOf depth (by .kind) (by .limit) (by .window) (now (image .entry)) d) tested ⌝ }
+fn walk_directory(
+    image: &[u8],
+    by: Search,
+    d: Directory,
+    depth: u32,
+    tested: u32,
+) -> ImageMatchAnswer
+    requires { ⌜ Small (now image) (by .rules .limit) depth (d .total) (d .total) tested ⌝ }
+    ensures { λ r. ⌜ toldImageMatch r ≡ firstIn (by .rules .kind) (now (image .entry)) (by .class) (by .sub) (walkOf depth (by .rules) (now (image .entry)) d) tested ⌝ }
 {
     walk_entry(image, by, d, depth, d.total, tested)
 }
 
 // The walk of the last entries of a directory, so many as are left.
-fn walk_entry(image: &[u8], by: Search, d: Directory, depth: u32, left: u32, tested: u32) -> Walked
-    requires { ⌜ Small (now image) (by .limit) depth (d .total) left tested ⌝ }
-    ensures { λ r. ⌜ toldFound r ≡ firstIn (by .kind) (now (image .entry)) (by .class) (by .sub) (walkFrom depth (by .kind) (by .limit) (by .window) (now (image .entry)) d left (d .total - left)) tested ⌝ }
+fn walk_entry(
+    image: &[u8],
+    by: Search,
+    d: Directory,
+    depth: u32,
+    left: u32,
+    tested: u32,
+) -> ImageMatchAnswer
+    requires { ⌜ Small (now image) (by .rules .limit) depth (d .total) left tested ⌝ }
+    ensures { λ r. ⌜ toldImageMatch r ≡ firstIn (by .rules .kind) (now (image .entry)) (by .class) (by .sub) (walkFrom depth (by .rules) (now (image .entry)) d left (d .total - left)) tested ⌝ }
 {
     let rest = pass_by(image, by, d, depth, left, tested);
     let seen = tested + (left - rest);
     if rest == 0 {
-        return Walked::Absent(seen);
+        return ImageMatchAnswer::Absent(seen);
     }
     let i = d.total - rest;
     match probe_entry(image, by, d, depth, i) {
         Probe::Match => {
             let place = d.place;
-            Walked::Given(Found {
+            ImageMatchAnswer::Given(ImageMatch {
                 place: place,
                 level: d.level,
                 index: i,
@@ -149,39 +160,37 @@ fn walk_entry(image: &[u8], by: Search, d: Directory, depth: u32, left: u32, tes
         }
         Probe::Pass => walk_entry(image, by, d, depth, rest - 1, seen + 1),
         Probe::Enter(n) => match walk_directory(image, by, n, depth - 1, seen + 1) {
-            Walked::Given(f) => Walked::Given(f),
-            Walked::Absent(t) => walk_entry(image, by, d, depth, rest - 1, t),
-            Walked::Refused(why) => Walked::Refused(why),
+            ImageMatchAnswer::Given(f) => ImageMatchAnswer::Given(f),
+            ImageMatchAnswer::Absent(t) => walk_entry(image, by, d, depth, rest - 1, t),
+            ImageMatchAnswer::Refused(why) => ImageMatchAnswer::Refused(why),
         },
-        Probe::Refused(why) => Walked::Refused(why),
+        Probe::Refused(why) => ImageMatchAnswer::Refused(why),
     }
 }
 
 // The answer where there is no directory to look in.
-fn no_walk(why: Refusal) -> Walked
-    ensures { λ r. ⌜ toldFound r ≡ fromLookup (refused (why .number) alone) ⌝ }
+fn no_walk(why: Refusal) -> ImageMatchAnswer
+    ensures { λ r. ⌜ toldImageMatch r ≡ fromLookup (refused (why .number) alone) ⌝ }
 {
     if why.number == 8 {
-        return Walked::Absent(0);
+        return ImageMatchAnswer::Absent(0);
     }
-    Walked::Refused(why)
+    ImageMatchAnswer::Refused(why)
 }
 
 // The lookup by type and subprogram in a whole flash image.
-pub fn find_image(image: &[u8], class: u8, sub: u8) -> Walked
-    ensures { λ r. ⌜ toldFound r ≡ findImage base (now (image .entry)) class sub ⌝ }
+pub fn find_image(image: &[u8], class: u8, sub: u8) -> ImageMatchAnswer
+    ensures { λ r. ⌜ toldImageMatch r ≡ findImage baseRules (now (image .entry)) class sub ⌝ }
 {
     match flash::directory(image, 1) {
-        Checked::Given(d) => {
+        DirectoryAnswer::Given(d) => {
             let by = Search {
-                kind: directory::psp(),
-                limit: flash::LIMIT,
-                window: Physical::WINDOW,
+                rules: efs::base_rules(),
                 class: class,
                 sub: sub,
             };
             walk_directory(image, by, d, 1, 0)
         }
-        Checked::Refused(why) => no_walk(why),
+        DirectoryAnswer::Refused(why) => no_walk(why),
     }
 }

@@ -3,17 +3,17 @@ use mathlib.Core.Path.{_≡_, refl}
 use Rattle.reply.specs.Reply.{Reply, given, refused, Settled}
 use Rattle.reply.proofs.ReplyLaws.{one-by, settled}
 use Rattle.window.specs.declared.Offset.{Offset}
-use Rattle.window.specs.declared.Converted.{Converted}
-use Rattle.window.specs.declared.Converted.the-variants as converted
+use Rattle.window.specs.declared.OffsetAnswer.{OffsetAnswer}
+use Rattle.window.specs.declared.OffsetAnswer.the-variants as offsetAnswer
 use Rattle.window.specs.Window.{toldOffset}
 
-abbrev back : Reply Offset → Converted
-back (given o) = converted.Given o
-back (refused number carried) = converted.Refused (record { number = number })
+abbrev back : Reply Offset → OffsetAnswer
+back (given o) = offsetAnswer.Given o
+back (refused number carried) = offsetAnswer.Refused (record { number = number })
 
-back-told : (x : Converted) → back (toldOffset x) ≡ x
-back-told (converted.Given o) = refl
-back-told (converted.Refused why) = refl
+back-told : (x : OffsetAnswer) → back (toldOffset x) ≡ x
+back-told (offsetAnswer.Given o) = refl
+back-told (offsetAnswer.Refused why) = refl
 
 pub offset-settled : Settled toldOffset
 offset-settled = settled toldOffset (one-by toldOffset back back-told)

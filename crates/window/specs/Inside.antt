@@ -3,14 +3,18 @@ use Prim.Native.Nat.{ℕ, _+_, _<_, _≤_}
 use mathlib.Core.Path.{_≡_}
 use Rattle.reply.specs.Reply.{given}
 use Rattle.window.specs.declared.Offset.{Offset}
-use Rattle.window.specs.Window.{offsetIn}
+use Rattle.window.specs.Window.{fourGiB, offsetIn}
 
 -- the byte at offset o of a window of so many bytes stands at address a, and the window ends at 4 GiB
 pub record Shown (window a o : ℕ) : Type 0 where
   pub inside : o < window
-  pub counted : a + window ≡ 0x1_0000_0000 + o
+  pub counted : a + window ≡ fourGiB + o
 
 -- an offset is given exactly where the window shows the address
-pub record WindowAcceptance : Type 0 where
-  pub only : (window a : ℕ) (o : Offset) → window ≤ 0x1_0000_0000 → offsetIn window a ≡ given o → Shown window a (o .0)
-  pub all : (window a : ℕ) (o : Offset) → window ≤ 0x1_0000_0000 → Shown window a (o .0) → offsetIn window a ≡ given o
+pub record WindowAcceptance (window : ℕ) : Type 0 where
+  pub only : (a : ℕ) (o : Offset) → offsetIn window a ≡ given o → Shown window a (o .0)
+  pub all : (a : ℕ) (o : Offset) → Shown window a (o .0) → offsetIn window a ≡ given o
+
+-- so it is for every window that fits below 4 GiB
+abbrev pub WindowsAccepted : Type 0
+WindowsAccepted = (window : ℕ) → window ≤ fourGiB → WindowAcceptance window

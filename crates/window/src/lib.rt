@@ -1,6 +1,8 @@
 // A flash offset and an x86 physical address are different kinds of number, and the window is the only way from one to the other.
 ghost use mathlib.Core.Path.{_≡_};
-ghost use Rattle.window.specs.Window.{offsetIn, toldOffset};
+ghost use lib.ListN.{length};
+ghost use lib.Dec.{leb};
+ghost use Rattle.window.specs.Window.{windowStart, offsetIn, toldOffset};
 use reply::Refusal;
 
 // A place in a flash image, counted from its first byte.
@@ -10,9 +12,23 @@ pub struct Offset(pub u32);
 pub struct Physical(pub u64);
 
 // What the window answers: an offset, or why there is none.
-pub enum Converted {
+pub enum OffsetAnswer {
     Given(Offset),
     Refused(Refusal),
+}
+
+// Where a window of so many bytes begins: each ends at 4 GiB.
+pub fn window_start(window: u32) -> u64
+    ensures { λ r. ⌜ r ≡ windowStart window ⌝ }
+{
+    0x1_0000_0000 - (window as u64)
+}
+
+// Does a place lie within an image, or at its end?
+pub fn within(image: &[u8], place: usize) -> bool
+    ensures { λ r. ⌜ r ≡ leb place (length (now (image .entry))) ⌝ }
+{
+    place <= image.len()
 }
 
 impl Physical {
@@ -20,17 +36,17 @@ impl Physical {
     pub const WINDOW: u32 = 16_777_216;
 
     // The flash offset that a window of so many bytes below 4 GiB gives this address.
-    pub fn offset(self, window: u32) -> Converted
+    pub fn offset(self, window: u32) -> OffsetAnswer
         ensures { λ r. ⌜ toldOffset r ≡ offsetIn window (self .0) ⌝ }
     {
         let a = self.0;
-        let first = 0x1_0000_0000 - (window as u64);
+        let first = window_start(window);
         if a < first {
-            return Converted::Refused(Refusal::OUTSIDE);
+            return OffsetAnswer::Refused(Refusal::OUTSIDE);
         }
         if 0xFFFF_FFFF < a {
-            return Converted::Refused(Refusal::OUTSIDE);
+            return OffsetAnswer::Refused(Refusal::OUTSIDE);
         }
-        Converted::Given(Offset((a - first) as u32))
+        OffsetAnswer::Given(Offset((a - first) as u32))
     }
 }

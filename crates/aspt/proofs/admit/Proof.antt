@@ -9,14 +9,14 @@ use Rattle.aspt.proofs.admit.Tie as tie
 space-fits-requires : tie.Need-space-fits-requires
 space-fits-requires c κs = search needs
 
-check-structures-requires : tie.Need-check-structures-requires
-check-structures-requires c κs = search needs
+structures-checks-requires : tie.Need-structures-checks-requires
+structures-checks-requires c κs = search needs
 
 returns : tie.Need-returns
 unfolding admitOf
 returns c =
     let t = c .before .before .before .args .table in
-    c .check-structures .ensures ∙ space-by (t .base) (t .pages) _ true (sym (c .before .before .space-fits .ensures) ∙ c .before .if1 .taken)
+    c .structures-checks .ensures ∙ space-by (t .base) (t .pages) _ true (sym (c .before .before .space-fits .ensures) ∙ c .before .if1 .taken)
 
 returns-2 : tie.Need-returns-2
 unfolding admitOf
@@ -29,6 +29,6 @@ admit-spec =
     tie.close
     (tie.spec
     space-fits-requires
-    check-structures-requires
+    structures-checks-requires
     returns
     returns-2)

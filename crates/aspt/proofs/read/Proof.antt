@@ -14,15 +14,15 @@ returns : tie.Need-returns
 unfolding readOf
 returns c = sym (failed _ 1 alone _ (lt-leb _ _ (c .if1 .taken)))
 
-slice-aggregate-read-table : tie.Need-slice-aggregate-read-table
-slice-aggregate-read-table c = sym (length-take-le _ (now (c .before .before .before .args .bytes)) (search needs))
+slice-aggregate-table-of : tie.Need-slice-aggregate-table-of
+slice-aggregate-table-of c = sym (length-take-le _ (now (c .before .before .before .args .bytes)) (search needs))
 
-read-table-requires : tie.Need-read-table-requires
-read-table-requires c κs = length-take-le 112 (now (c .before .before .before .args .bytes)) (c .before .if1 .left)
+table-of-requires : tie.Need-table-of-requires
+table-of-requires c κs = length-take-le 112 (now (c .before .before .before .args .bytes)) (c .before .if1 .left)
 
 returns-2 : tie.Need-returns-2
 unfolding readOf
-returns-2 c = c .read-table .ensures ∙ sym (passed _ 1 alone _ (le-leb _ _ (c .before .before .if1 .left)))
+returns-2 c = c .table-of .ensures ∙ sym (passed _ 1 alone _ (le-leb _ _ (c .before .before .if1 .left)))
 
 pub read-spec : {M : Type 1} → statement M
-read-spec = tie.close (tie.spec returns slice-aggregate-read-table read-table-requires returns-2)
+read-spec = tie.close (tie.spec returns slice-aggregate-table-of table-of-requires returns-2)

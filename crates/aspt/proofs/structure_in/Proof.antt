@@ -1,6 +1,3 @@
-use Rattle.le.proofs.Laws.{byte-le}
-use denote.Ref.{now}
-use mathlib.Core.Path.{_∙_}
 use borrow.Author.Needs.{needs}
 use Rattle.aspt.proofs.structure_in.Statement.{statement}
 use Rattle.aspt.proofs.structure_in.Tie as tie
@@ -8,8 +5,8 @@ use Rattle.aspt.proofs.structure_in.Tie as tie
 u16-at-requires : tie.Need-u16-at-requires
 u16-at-requires c κs = search needs
 
-byte-at-requires : tie.Need-byte-at-requires
-byte-at-requires c κs = search needs
+u8-at-requires : tie.Need-u8-at-requires
+u8-at-requires c κs = search needs
 
 u32-at-requires : tie.Need-u32-at-requires
 u32-at-requires c κs = search needs
@@ -22,10 +19,9 @@ u32-at-requires-3 c κs = search needs
 
 returns : tie.Need-returns
 returns c =
-    let id = c .before .before .before .byte-at .ensures ∙ byte-le (now (c .before .before .before .before .before .before .args .part)) 4 in
     λ i. record {
-      kind = c .before .before .before .before .u16-at .ensures i;
-      id = id i;
+      class = c .before .before .before .before .u16-at .ensures i;
+      id = c .before .before .before .u8-at .ensures i;
       first = c .before .before .u32-at .ensures i;
       second = c .before .u32-at2 .ensures i;
       third = c .u32-at3 .ensures i;
@@ -36,7 +32,7 @@ structure-in-spec =
     tie.close
     (tie.spec
     u16-at-requires
-    byte-at-requires
+    u8-at-requires
     u32-at-requires
     u32-at-requires-2
     u32-at-requires-3

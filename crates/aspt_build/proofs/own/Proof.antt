@@ -6,7 +6,7 @@ use Rattle.aspt_build.proofs.own.Tie as tie
 
 returns : tie.Need-returns
 unfolding ownOf
-returns c = simp (eq-eqb _ 1 (c .if1 .taken), ne-eqb (c .before .before .args .st .kind) 2 (λ q. omega arith))
+returns c = simp (eq-eqb _ 1 (c .if1 .taken), ne-eqb (c .before .before .args .st .class) 2 (λ q. omega arith))
 
 returns-2 : tie.Need-returns-2
 unfolding ownOf

@@ -12,6 +12,9 @@ use Rattle.aspt_build.proofs.put_identity.Tie as tie
 put32-requires : tie.Need-put32-requires
 put32-requires c κs = search needs
 
+cast-put32 : tie.Need-cast-put32
+cast-put32 c = search needs
+
 put32-requires-2 : tie.Need-put32-requires-2
 put32-requires-2 c κs = search needs
 
@@ -34,4 +37,4 @@ returns c =
 pub put-identity-spec : {M : Type 1} → statement M
 put-identity-spec =
     tie.close
-    (tie.spec put32-requires put32-requires-2 put8-requires put8-requires-2 same-length returns)
+    (tie.spec put32-requires cast-put32 put32-requires-2 put8-requires put8-requires-2 same-length returns)

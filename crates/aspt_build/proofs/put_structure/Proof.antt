@@ -1,7 +1,6 @@
 use Rattle.le.proofs.Numbers.{puts-fill}
-use Rattle.aspt_build.proofs.Written.{put-next, part-written}
-use Rattle.aspt.specs.Field.{field}
-use Rattle.aspt_build.specs.Write.{filled}
+use Rattle.aspt_build.proofs.Written.{put-next, structure-written}
+use Rattle.le.specs.Field.{field, filled}
 use Rattle.le.specs.Le.{leBytes, Number, bytesOf}
 use denote.Ref.{now}
 use Prim.Native.Nat.{ℕ}
@@ -40,7 +39,7 @@ returns c =
     put-next _ _ (c .before .before .put32 .ensures) (put-next _ _ (c .before .before .before .before .before .before .put642 .ensures) (c .before .before .before .before .before .before .before .before .before .before .before .put64 .ensures))
     ∙ puts-fill (fields (c .before .before .before .before .before .before .before .before .before .before .before .before .front .result) (c .before .before .before .before .before .before .before .joined .result) (a .st .third)) (now (a .part)) (sym (c .before .before .before .before .before .before .before .before .before .before .before .before .before .before .before .pre))
     ∙ (λ i. bytesOf (fields (c .before .before .before .before .before .before .before .before .before .before .before .before .front .ensures i) (c .before .before .before .before .before .before .before .joined .ensures i) (a .st .third)))
-    ∙ part-written (a .st) (search needs) (search needs) (search needs)
+    ∙ structure-written (a .st) (search needs) (search needs) (search needs)
 
 pub put-structure-spec : {M : Type 1} → statement M
 put-structure-spec =

@@ -1,5 +1,5 @@
 use Rattle.aspt_build.proofs.Written.{fields-written}
-use Rattle.aspt_build.specs.Write.{partFields, partBytes, identityFields, makerFields, spaceFields, checksumOf, tableBytes}
+use Rattle.aspt_build.specs.Write.{structureFields, structureBytes, identityFields, makerFields, spaceFields, checksumOf, tableBytes}
 use Rattle.aspt.specs.declared.Structure.{Structure}
 use Rattle.le.specs.Le.{putBytes, bytesOf}
 use borrow.Rule.Slice.PartMut.{putMid}
@@ -72,10 +72,10 @@ same-length : tie.Need-same-length
 same-length c = search needs
 
 returns : tie.Need-returns
-unfolding tableBytes partBytes
+unfolding tableBytes structureBytes
 returns c =
     let t = c .before .before .before .before .before .before .before .before .before .before .before .before .before .before .before .before .before .before .before .before .before .before .before .before .before .before .before .before .before .args .table in
-    let part : Structure → List ℕ = λ st. bytesOf (partFields st) in
+    let part : Structure → List ℕ = λ st. bytesOf (structureFields st) in
     let identity = c .before .before .before .before .before .before .before .before .before .before .before .before .before .before .before .before .before .before .before .before .before .before .put-identity .ensures ∙ ap (λ (x : ℕ). putBytes (bytesOf (identityFields x)) (now (c .before .before .before .before .before .before .before .before .before .before .before .before .before .before .before .before .before .before .before .before .before .before .before .before .before .before .before .before .before .args .buf)) 0) (c .before .before .before .before .before .before .before .before .before .before .before .before .before .before .before .before .before .before .before .before .before .before .before .checksum .ensures) in
     let maker = c .before .before .before .before .before .before .before .before .before .before .before .before .before .before .before .before .before .before .put-maker .ensures ∙ ap (λ (x : List ℕ). putBytes (bytesOf (makerFields t)) x 10) identity in
     let space = c .before .before .before .before .before .before .before .before .before .before .before .before .before .before .put-space .ensures ∙ ap (λ (x : List ℕ). putBytes (bytesOf (spaceFields t)) x 36) maker in

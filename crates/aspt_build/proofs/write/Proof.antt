@@ -1,4 +1,4 @@
-use Rattle.aspt.specs.Calls.{toldVerdict}
+use Rattle.aspt.specs.Calls.{toldCheck}
 use Rattle.aspt_build.specs.Write.{writeOf, writtenBy}
 use Rattle.aspt.specs.Rules.{done}
 use Rattle.reply.proofs.ReplyLaws.{passed, failed, then-told}
@@ -23,7 +23,7 @@ returns : tie.Need-returns
 unfolding writeOf
 returns c =
     let a = c .before .before .before .before .before .args in
-    let e = sym (failed _ 12 alone done (lt-leb _ _ (c .if1 .taken))) ∙ then-told toldVerdict _ (c .before .enum-told .given .1) (c .before .before .before .admit .ensures) in
+    let e = sym (failed _ 12 alone done (lt-leb _ _ (c .if1 .taken))) ∙ then-told toldCheck _ (c .before .enum-told .given .1) (c .before .before .before .admit .ensures) in
     (e, ap (writtenBy (a .table) (now (a .buf))) e)
 
 put-table-requires : tie.Need-put-table-requires
@@ -33,7 +33,7 @@ returns-2 : tie.Need-returns-2
 unfolding writeOf
 returns-2 c =
     let a = c .before .before .before .before .before .args in
-    let e = then-told toldVerdict _ (c .before .why .given .1) (c .before .before .before .admit .ensures) in
+    let e = then-told toldCheck _ (c .before .why .given .1) (c .before .before .before .admit .ensures) in
     (e, ap (writtenBy (a .table) (now (a .buf))) e)
 
 same-length : tie.Need-same-length
@@ -43,7 +43,7 @@ returns-3 : tie.Need-returns-3
 unfolding writeOf
 returns-3 c =
     let a = c .before .before .before .before .before .before .before .before .before .args in
-    let e = sym (passed _ 12 alone done (le-leb _ _ (c .before .before .before .before .if1 .left))) ∙ then-told toldVerdict _ (c .before .before .before .before .before .enum-told .given .1) (c .before .before .before .before .before .before .before .admit .ensures) in
+    let e = sym (passed _ 12 alone done (le-leb _ _ (c .before .before .before .before .if1 .left))) ∙ then-told toldCheck _ (c .before .before .before .before .before .enum-told .given .1) (c .before .before .before .before .before .before .before .admit .ensures) in
     (e, c .before .before .put-table .ensures ∙ ap (writtenBy (a .table) (now (a .buf))) e)
 
 pub write-spec : {M : Type 1} → statement M

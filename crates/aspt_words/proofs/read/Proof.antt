@@ -1,5 +1,5 @@
 use Rattle.aspt_words.specs.AsptTable.{layTable}
-use Rattle.aspt.specs.Calls.{toldReading}
+use Rattle.aspt.specs.Calls.{toldTable}
 use Rattle.lent.proofs.Laws.{given-number, given-words, alone-number, alone-words}
 use Rattle.lent.specs.Lent.{numberFor, wordsFor}
 use denote.Ref.{now}
@@ -37,14 +37,14 @@ same-length c = search needs
 returns : tie.Need-returns
 returns c =
     let words = now (c .before .before .before .before .before .before .before .before .before .before .before .before .args .words) in
-    let gives = sym (c .before .before .before .before .before .before .before .before .before .read .ensures) ∙ ap toldReading (c .before .before .before .before .before .before .before .t .given .1) in
+    let gives = sym (c .before .before .before .before .before .before .before .before .before .read .ensures) ∙ ap toldTable (c .before .before .before .before .before .before .before .t .given .1) in
     let put = c .before .before .put .ensures in
     let laid = c .before .before .before .before .before .lay .ensures in
     (given-number layTable _ _ _ _ gives (put .0 ∙ ap (λ (v : List ℕ). numberFor 0 v words) laid), given-words layTable _ _ _ _ gives (put .1 ∙ ap (λ (v : List ℕ). wordsFor v words) laid))
 
 returns-2 : tie.Need-returns-2
 returns-2 c =
-    let gives = sym (c .before .before .before .before .read .ensures) ∙ ap toldReading (c .before .before .why .given .1) in
+    let gives = sym (c .before .before .before .before .read .ensures) ∙ ap toldTable (c .before .before .why .given .1) in
     (alone-number layTable _ _ _ gives, alone-words layTable _ _ _ gives)
 
 pub read-spec : {M : Type 1} → statement M

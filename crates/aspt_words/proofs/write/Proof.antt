@@ -1,6 +1,6 @@
 use Rattle.aspt_words.proofs.AsptWords.{words-pass, words-fail}
 use Rattle.aspt_words.specs.AsptTable.{layTable, tableFrom, writeWords}
-use Rattle.aspt.specs.Calls.{toldVerdict}
+use Rattle.aspt.specs.Calls.{toldCheck}
 use Rattle.aspt_build.specs.Write.{writeOf, writtenBy}
 use Rattle.aspt.specs.declared.Table.{Table}
 use Rattle.lent.specs.Lent.{numberOf, begins}
@@ -58,7 +58,7 @@ returns-2 c =
     let fits = sym (c .before .before .before .before .before .before .before .begin-with .ensures ∙ ap (λ (v : List ℕ). begins v words) (c .before .before .before .before .before .before .before .before .before .lay .ensures ∙ ap layTable table)) ∙ c .before .before .before .before .before .before .if2 .taken in
     let write = c .before .before .before .before .write .ensures in
     let e = ap (λ (t : Table). writeOf t s) table ∙ words-pass words s enough fits in
-    (ap numberOf (ap toldVerdict (sym (c .enum-told .given .1)) ∙ write .0 ∙ e), write .1 ∙ (λ i. writtenBy (table i) s (e i)))
+    (ap numberOf (ap toldCheck (sym (c .enum-told .given .1)) ∙ write .0 ∙ e), write .1 ∙ (λ i. writtenBy (table i) s (e i)))
 
 same-length-2 : tie.Need-same-length-2
 same-length-2 c = search needs
@@ -72,7 +72,7 @@ returns-3 c =
     let fits = sym (c .before .before .before .before .before .before .before .before .before .begin-with .ensures ∙ ap (λ (v : List ℕ). begins v words) (c .before .before .before .before .before .before .before .before .before .before .before .lay .ensures ∙ ap layTable table)) ∙ c .before .before .before .before .before .before .before .before .if2 .taken in
     let write = c .before .before .before .before .before .before .write .ensures in
     let e = ap (λ (t : Table). writeOf t s) table ∙ words-pass words s enough fits in
-    (ap numberOf (ap toldVerdict (sym (c .before .before .why .given .1)) ∙ write .0 ∙ e), write .1 ∙ (λ i. writtenBy (table i) s (e i)))
+    (ap numberOf (ap toldCheck (sym (c .before .before .why .given .1)) ∙ write .0 ∙ e), write .1 ∙ (λ i. writtenBy (table i) s (e i)))
 
 returns-4 : tie.Need-returns-4
 returns-4 c =

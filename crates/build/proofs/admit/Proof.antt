@@ -8,8 +8,8 @@ use Rattle.build.specs.Write.{roomFor}
 use Rattle.build.proofs.admit.Statement.{statement}
 use Rattle.build.proofs.admit.Tie as tie
 
-psp-requires : tie.Need-psp-requires
-psp-requires c κs = search needs
+psp-kind-requires : tie.Need-psp-kind-requires
+psp-kind-requires c κs = search needs
 
 directory-by-cookie-requires : tie.Need-directory-by-cookie-requires
 directory-by-cookie-requires c κs = search needs
@@ -27,7 +27,7 @@ returns : tie.Need-returns
 returns c =
     let a = c .before .before .before .before .before .before .before .args in
     let s = now (a .buf) in
-    let psp = c .before .before .before .before .before .psp in
+    let psp = c .before .before .before .before .before .psp-kind in
     c .room-for .ensures ∙ then-told toldDirectory (roomFor (a .f) s) (c .before .before .d .given .1)
     (c .before .before .before .before .directory-by-cookie .ensures ∙ ap (λ (k : Kind). directoryByCookie k 512 s 0) (psp .ensures))
 
@@ -35,7 +35,7 @@ returns-2 : tie.Need-returns-2
 returns-2 c =
     let a = c .before .before .before .before .before .before .args in
     let s = now (a .buf) in
-    let psp = c .before .before .before .before .psp in
+    let psp = c .before .before .before .before .psp-kind in
     then-told toldDirectory (roomFor (a .f) s) (c .before .why .given .1)
     (c .before .before .before .directory-by-cookie .ensures ∙ ap (λ (k : Kind). directoryByCookie k 512 s 0) (psp .ensures))
 
@@ -43,7 +43,7 @@ pub admit-spec : {M : Type 1} → statement M
 admit-spec =
     tie.close
     (tie.spec
-    psp-requires
+    psp-kind-requires
     directory-by-cookie-requires
     enum-known-d
     room-for-requires

@@ -3,8 +3,8 @@ use Rattle.build.proofs.Cases.{room-cases}
 use Rattle.build.proofs.room_for.Statement.{statement}
 use Rattle.build.proofs.room_for.Tie as tie
 
-psp-requires : tie.Need-psp-requires
-psp-requires c κs = search needs
+psp-kind-requires : tie.Need-psp-kind-requires
+psp-kind-requires c κs = search needs
 
 returns : tie.Need-returns
 returns c = search room-cases
@@ -15,8 +15,8 @@ returns-2 c = search room-cases
 may-stand-requires : tie.Need-may-stand-requires
 may-stand-requires c κs = search needs
 
-holds-requires : tie.Need-holds-requires
-holds-requires c κs = search needs
+holds-in-requires : tie.Need-holds-in-requires
+holds-in-requires c κs = search needs
 
 returns-3 : tie.Need-returns-3
 returns-3 c = search room-cases
@@ -52,11 +52,11 @@ pub room-for-spec : {M : Type 1} → statement M
 room-for-spec =
     tie.close
     (tie.spec
-    psp-requires
+    psp-kind-requires
     returns
     returns-2
     may-stand-requires
-    holds-requires
+    holds-in-requires
     returns-3
     returns-4
     cast-if6

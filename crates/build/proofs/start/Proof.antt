@@ -15,11 +15,11 @@ returns-2 c = let e = start-above _ _ (c .before .if1 .left) (c .if2 .taken) in 
 returns-3 : tie.Need-returns-3
 returns-3 c = let e = start-short _ (now (c .before .before .before .before .args .buf)) (c .before .before .if1 .left) (c .before .if2 .left) (c .if3 .taken) in (e, ap (startedBy _ _) e)
 
-psp-requires : tie.Need-psp-requires
-psp-requires c κs = search needs
+psp-kind-requires : tie.Need-psp-kind-requires
+psp-kind-requires c κs = search needs
 
-cookie-requires : tie.Need-cookie-requires
-cookie-requires c κs = search needs
+cookie-of-requires : tie.Need-cookie-of-requires
+cookie-of-requires c κs = search needs
 
 put32-requires : tie.Need-put32-requires
 put32-requires c κs = search needs
@@ -46,8 +46,8 @@ start-spec =
     returns
     returns-2
     returns-3
-    psp-requires
-    cookie-requires
+    psp-kind-requires
+    cookie-of-requires
     put32-requires
     put32-requires-2
     put32-requires-3

@@ -30,8 +30,8 @@ loop-holds c =
     let a = c .before .args in
     (omega arith, refl, λ e. (some-none (badAt (a .kind) (a .level) (now (a .image)) (a .at .0)), marks-none 64 (λ j. headAt (a .kind) (now (a .image)) (a .at .0) j % 65536)))
 
-head-of-requires : tie.Need-head-of-requires Inv-loop μ-loop
-head-of-requires c κs =
+head-at-requires : tie.Need-head-at-requires Inv-loop μ-loop
+head-at-requires c κs =
     let l = c .before in
     let a = l .before .before .args in
     entry-inside (a .kind) (a .at .0) (a .n) (l .loop .i) (length (now (a .image))) (l .before .before .pre) (omega arith)
@@ -54,8 +54,8 @@ marked-requires c κs = search needs
 either-requires : tie.Need-either-requires Inv-loop μ-loop
 either-requires c κs = search needs
 
-faulty-requires : tie.Need-faulty-requires Inv-loop μ-loop
-faulty-requires c κs = search needs
+faulty-head-requires : tie.Need-faulty-head-requires Inv-loop μ-loop
+faulty-head-requires c κs = search needs
 
 either-requires-2 : tie.Need-either-requires-2 Inv-loop μ-loop
 either-requires-2 c κs = search needs
@@ -90,16 +90,16 @@ loop-again c =
     let i = l .loop .i in
     let seen = l .loop .seen in
     let bytes : Bytes s = λ j. l .before .shared-slice-known .given j .fits in
-    let p = h .head-of .result % 65536 in
-    let head = h .head-of .ensures in
+    let p = h .head-at .result % 65536 in
+    let head = h .head-at .ensures in
     let pair = ap (λ (x : ℕ). x % 65536) head in
     let cell = m .before .cell .ensures .0 in
-    let fault = f .faulty .ensures ∙ ap (faultyHead (a .kind) (a .level)) head in (
+    let fault = f .faulty-head .ensures ∙ ap (faultyHead (a .kind) (a .level)) head in (
       omega arith,
       search needs,
       λ e.
           let third = or-false (c .before .before .either2 .result) (l .loop .bad) (sym (c .before .either3 .ensures) ∙ e) in
-          let second = or-false (f .faulty .result) (f .before .either .result) (sym (c .before .before .either2 .ensures) ∙ third .0) in
+          let second = or-false (f .faulty-head .result) (f .before .either .result) (sym (c .before .before .either2 .ensures) ∙ third .0) in
           let one = or-false (leb 4096 p) (m .marked .result) (sym (f .before .either .ensures) ∙ second .1) in
           let small : p < 4096 = leb-false _ _ (one .0) in
           let place : m .before .cell .result % 64 ≡ p / 64 = omega (arith, cell) in
@@ -126,14 +126,14 @@ bad-by-few-marks-spec =
     Inv-loop
     μ-loop
     loop-holds
-    head-of-requires
+    head-at-requires
     cast-pair
     cell-requires
     mul-word
     array-read-word
     marked-requires
     either-requires
-    faulty-requires
+    faulty-head-requires
     either-requires-2
     either-requires-3
     with-mark-requires

@@ -27,8 +27,8 @@ loop-holds c =
     let a = c .before .args in
     (omega arith, refl, sym (some-none (badAt (a .kind) (a .level) (now (a .image)) (a .at .0))), marks-none 1024 (λ j. headAt (a .kind) (now (a .image)) (a .at .0) j % 65536))
 
-head-of-requires : tie.Need-head-of-requires Inv-loop μ-loop
-head-of-requires c κs =
+head-at-requires : tie.Need-head-at-requires Inv-loop μ-loop
+head-at-requires c κs =
     let l = c .before in
     let a = l .before .before .args in
     entry-inside (a .kind) (a .at .0) (a .n) (l .loop .i) (length (now (a .image))) (l .before .before .pre) (omega arith)
@@ -45,8 +45,8 @@ mul-word c = search needs
 array-read-word : tie.Need-array-read-word Inv-loop μ-loop
 array-read-word c = search needs
 
-faulty-requires : tie.Need-faulty-requires Inv-loop μ-loop
-faulty-requires c κs = search needs
+faulty-head-requires : tie.Need-faulty-head-requires Inv-loop μ-loop
+faulty-head-requires c κs = search needs
 
 marked-requires : tie.Need-marked-requires Inv-loop μ-loop
 marked-requires c κs = search needs
@@ -83,16 +83,16 @@ loop-again c =
     let i = l .loop .i in
     let seen = l .loop .seen in
     let bytes : Bytes s = λ j. l .before .shared-slice-known .given j .fits in
-    let head = h .head-of .ensures in
+    let head = h .head-at .ensures in
     let cell = m .before .before .cell .ensures .0 in
     let mark =
     m .marked .ensures ∙ ap₂ (λ (w p : ℕ). bitOf (keptAs (getD seen w 0)) (p % 64)) (cell ∙ ap (λ (x : ℕ). x % 65536 / 64) head) (ap (λ (x : ℕ). x % 65536) head)
     ∙ mark-tells (a .kind) s o bytes 1024 i seen (omega arith) (l .loop .inv .3) in
-    let fault = m .before .faulty .ensures ∙ ap (faultyHead (a .kind) (a .level)) head in (
+    let fault = m .before .faulty-head .ensures ∙ ap (faultyHead (a .kind) (a .level)) head in (
       omega arith,
       search needs,
       c .before .either2 .ensures ∙ ap₂ _||_ (c .before .before .either .ensures ∙ ap₂ _||_ fault mark) (l .loop .inv .2) ∙ sym (some-more (badAt (a .kind) (a .level) s o) i),
-      marks-step 1024 (λ j. headAt (a .kind) s o j % 65536) i seen (h .head-of .result % 65536) (m .before .before .cell .result) (c .with-mark .result) (l .loop .inv .1) (l .loop .inv .3) (ap (λ (x : ℕ). x % 65536) head) (omega arith) cell (c .with-mark .ensures),
+      marks-step 1024 (λ j. headAt (a .kind) s o j % 65536) i seen (h .head-at .result % 65536) (m .before .before .cell .result) (c .with-mark .result) (l .loop .inv .1) (l .loop .inv .3) (ap (λ (x : ℕ). x % 65536) head) (omega arith) cell (c .with-mark .ensures),
     )
 
 returns : tie.Need-returns Inv-loop μ-loop
@@ -109,12 +109,12 @@ bad-by-marks-spec =
     Inv-loop
     μ-loop
     loop-holds
-    head-of-requires
+    head-at-requires
     cast-pair
     cell-requires
     mul-word
     array-read-word
-    faulty-requires
+    faulty-head-requires
     marked-requires
     either-requires
     either-requires-2

@@ -18,23 +18,26 @@ returns : tie.Need-returns
 unfolding directoryAt
 returns c = simp (lt-leb _ _ (c .if1 .taken))
 
+add-u32-at : tie.Need-add-u32-at
+add-u32-at c = search needs
+
 u32-at-requires : tie.Need-u32-at-requires
 u32-at-requires c κs = search needs
 
-cookie-requires : tie.Need-cookie-requires
-cookie-requires c κs = search needs
+cookie-of-requires : tie.Need-cookie-of-requires
+cookie-of-requires c κs = search needs
 
 returns-2 : tie.Need-returns-2
-returns-2 c = at-signature _ _ _ _ _ (c .before .before .u32-at .ensures) (c .before .before .before .if1 .left) _ _ (c .before .cookie .ensures) (c .if2 .taken)
+returns-2 c = at-signature _ _ _ _ _ (c .before .before .u32-at .ensures) (c .before .before .before .if1 .left) _ _ (c .before .cookie-of .ensures) (c .if2 .taken)
 
-add-u32-at : tie.Need-add-u32-at
-add-u32-at c = search needs
+add-u32-at-2 : tie.Need-add-u32-at-2
+add-u32-at-2 c = search needs
 
 u32-at-requires-2 : tie.Need-u32-at-requires-2
 u32-at-requires-2 c κs = search needs
 
 returns-3 : tie.Need-returns-3
-returns-3 c = at-limits _ _ _ _ _ (c .before .before .before .before .u32-at .ensures) (c .before .before .before .before .before .if1 .left) _ _ (c .before .before .before .cookie .ensures) (c .before .before .if2 .left) _ (c .before .u32-at2 .ensures) (c .if3 .taken)
+returns-3 c = at-limits _ _ _ _ _ (c .before .before .before .before .u32-at .ensures) (c .before .before .before .before .before .if1 .left) _ _ (c .before .before .before .cookie-of .ensures) (c .before .before .if2 .left) _ (c .before .u32-at2 .ensures) (c .if3 .taken)
 
 cast-size : tie.Need-cast-size
 cast-size c = search needs
@@ -55,13 +58,13 @@ add-if4-2 : tie.Need-add-if4-2
 add-if4-2 c = omega (arith, small c)
 
 returns-4 : tie.Need-returns-4
-returns-4 c = at-cut _ _ _ _ _ (c .before .before .before .before .before .before .u32-at .ensures) (c .before .before .before .before .before .before .before .if1 .left) _ _ (c .before .before .before .before .before .cookie .ensures) (c .before .before .before .before .if2 .left) _ (c .before .before .before .u32-at2 .ensures) (c .before .before .if3 .left) (c .if4 .taken)
+returns-4 c = at-cut _ _ _ _ _ (c .before .before .before .before .before .before .u32-at .ensures) (c .before .before .before .before .before .before .before .if1 .left) _ _ (c .before .before .before .before .before .cookie-of .ensures) (c .before .before .before .before .if2 .left) _ (c .before .before .before .u32-at2 .ensures) (c .before .before .if3 .left) (c .if4 .taken)
 
 sealed-requires : tie.Need-sealed-requires
 sealed-requires c κs = search needs
 
 returns-5 : tie.Need-returns-5
-returns-5 c = at-sealed _ _ _ _ _ (c .before .before .before .before .before .before .before .u32-at .ensures) (c .before .before .before .before .before .before .before .before .if1 .left) _ _ (c .before .before .before .before .before .before .cookie .ensures) (c .before .before .before .before .before .if2 .left) _ (c .before .before .before .before .u32-at2 .ensures) (c .before .before .before .if3 .left) (c .before .if4 .left) _ (c .sealed .ensures)
+returns-5 c = at-sealed _ _ _ _ _ (c .before .before .before .before .before .before .before .u32-at .ensures) (c .before .before .before .before .before .before .before .before .if1 .left) _ _ (c .before .before .before .before .before .before .cookie-of .ensures) (c .before .before .before .before .before .if2 .left) _ (c .before .before .before .before .u32-at2 .ensures) (c .before .before .before .if3 .left) (c .before .if4 .left) _ (c .sealed .ensures)
 
 pub directory-at-spec : {M : Type 1} → statement M
 directory-at-spec =
@@ -70,10 +73,11 @@ directory-at-spec =
     cast-o
     add-if1
     returns
-    u32-at-requires
-    cookie-requires
-    returns-2
     add-u32-at
+    u32-at-requires
+    cookie-of-requires
+    returns-2
+    add-u32-at-2
     u32-at-requires-2
     returns-3
     cast-size

@@ -15,6 +15,9 @@ returns : tie.Need-returns
 unfolding directoryByCookie
 returns c = simp (lt-leb _ _ (c .if1 .taken))
 
+add-u32-at : tie.Need-add-u32-at
+add-u32-at c = search needs
+
 u32-at-requires : tie.Need-u32-at-requires
 u32-at-requires c κs = search needs
 
@@ -40,6 +43,7 @@ directory-by-cookie-spec =
     cast-o
     add-if1
     returns
+    add-u32-at
     u32-at-requires
     directory-at-requires
     returns-2

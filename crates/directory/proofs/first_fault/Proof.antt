@@ -30,21 +30,21 @@ loop-holds c =
     let a = c .before .args in
     (omega arith, scan-start (step (a .kind) (a .level) (now (a .image)) (a .at .0)) (λ i. i) (a .n))
 
-head-of-requires : tie.Need-head-of-requires Inv-loop μ-loop
-head-of-requires c κs =
+head-at-requires : tie.Need-head-at-requires Inv-loop μ-loop
+head-at-requires c κs =
     let l = c .before in
     let a = l .before .before .args in
     entry-inside (a .kind) (a .at .0) (a .n) (l .loop .i) (length (now (a .image))) (l .before .before .pre) (omega arith)
 
-faulty-requires : tie.Need-faulty-requires Inv-loop μ-loop
-faulty-requires c κs = search needs
+faulty-head-requires : tie.Need-faulty-head-requires Inv-loop μ-loop
+faulty-head-requires c κs = search needs
 
 returns : tie.Need-returns Inv-loop μ-loop
 returns c =
     let l = c .before .before .before .before in
     let a = l .before .before .args in
     let i = l .loop .i in
-    let hit = ap (faultyHead (a .kind) (a .level)) (sym (c .before .before .head-of .ensures)) ∙ sym (c .before .faulty .ensures) ∙ c .if1 .taken in
+    let hit = ap (faultyHead (a .kind) (a .level)) (sym (c .before .before .head-at .ensures)) ∙ sym (c .before .faulty-head .ensures) ∙ c .if1 .taken in
     sym (scan-stop (step (a .kind) (a .level) (now (a .image)) (a .at .0)) (λ i. i) (a .n) i i (omega arith) (λ rest. ap (λ (b : Bool). cond b i rest) hit)) ∙ l .loop .inv .1
 
 add-i : tie.Need-add-i Inv-loop μ-loop
@@ -58,7 +58,7 @@ loop-again c =
     let l = c .before .before .before .before in
     let a = l .before .before .args in
     let i = l .loop .i in
-    let miss = ap (faultyHead (a .kind) (a .level)) (sym (c .before .before .head-of .ensures)) ∙ sym (c .before .faulty .ensures) ∙ c .if1 .left in
+    let miss = ap (faultyHead (a .kind) (a .level)) (sym (c .before .before .head-at .ensures)) ∙ sym (c .before .faulty-head .ensures) ∙ c .if1 .left in
     (omega arith, sym (scan-pass (step (a .kind) (a .level) (now (a .image)) (a .at .0)) (λ i. i) (a .n) i (omega arith) (λ rest. ap (λ (b : Bool). cond b i rest) miss)) ∙ l .loop .inv .1)
 
 returns-2 : tie.Need-returns-2 Inv-loop μ-loop
@@ -76,8 +76,8 @@ first-fault-spec =
     Inv-loop
     μ-loop
     loop-holds
-    head-of-requires
-    faulty-requires
+    head-at-requires
+    faulty-head-requires
     returns
     add-i
     loop-less

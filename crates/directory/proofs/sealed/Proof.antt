@@ -66,11 +66,11 @@ u32-at-requires-2 c κs = search needs
 returns-2 : tie.Need-returns-2
 returns-2 c = sym (passed _ _ _ _ (eq-eqb _ _ (sym (c .before .before .before .u32-at .ensures) ∙ c .before .before .if1 .left ∙ sum (c .before .before .before .before))) ∙ failed _ _ _ _ (ne-eqb _ _ (λ e. c .if2 .taken (c .before .u32-at2 .ensures ∙ e))))
 
-entries-requires : tie.Need-entries-requires
-entries-requires c κs = search needs
+entries-at-requires : tie.Need-entries-at-requires
+entries-at-requires c κs = search needs
 
 returns-3 : tie.Need-returns-3
-returns-3 c = c .entries .ensures ∙ sym (passed _ _ _ _ (eq-eqb _ _ (sym (c .before .before .before .before .u32-at .ensures) ∙ c .before .before .before .if1 .left ∙ sum (c .before .before .before .before .before))) ∙ passed _ _ _ _ (eq-eqb _ _ (sym (c .before .before .u32-at2 .ensures) ∙ c .before .if2 .left)))
+returns-3 c = c .entries-at .ensures ∙ sym (passed _ _ _ _ (eq-eqb _ _ (sym (c .before .before .before .before .u32-at .ensures) ∙ c .before .before .before .if1 .left ∙ sum (c .before .before .before .before .before))) ∙ passed _ _ _ _ (eq-eqb _ _ (sym (c .before .before .u32-at2 .ensures) ∙ c .before .if2 .left)))
 
 pub sealed-spec : {M : Type 1} → statement M
 sealed-spec =
@@ -92,5 +92,5 @@ sealed-spec =
     add-u32-at-2
     u32-at-requires-2
     returns-2
-    entries-requires
+    entries-at-requires
     returns-3)

@@ -9,17 +9,17 @@ use Rattle.entries.proofs.entry_in.Tie as tie
 cast-if1 : tie.Need-cast-if1
 cast-if1 c = search needs
 
-cast-entry-of : tie.Need-cast-entry-of
-cast-entry-of c = search needs
+cast-fields-at : tie.Need-cast-fields-at
+cast-fields-at c = search needs
 
-entry-of-requires : tie.Need-entry-of-requires
-entry-of-requires c κs = search needs
+fields-at-requires : tie.Need-fields-at-requires
+fields-at-requires c κs = search needs
 
 returns : tie.Need-returns
-returns c = ap given (c .entry-of .ensures) ∙ sym (passed _ _ _ _ (lt-ltb _ _ (c .before .if1 .taken)))
+returns c = ap given (c .fields-at .ensures) ∙ sym (passed _ _ _ _ (lt-ltb _ _ (c .before .if1 .taken)))
 
 returns-2 : tie.Need-returns-2
 returns-2 c = sym (failed _ _ _ _ (le-ltb _ _ (c .if1 .left)))
 
 pub entry-in-spec : {M : Type 1} → statement M
-entry-in-spec = tie.close (tie.spec cast-if1 cast-entry-of entry-of-requires returns returns-2)
+entry-in-spec = tie.close (tie.spec cast-if1 cast-fields-at fields-at-requires returns returns-2)

@@ -23,19 +23,19 @@ loop-holds c =
     let a = c .before .args in
     (omega arith, scan-start (leadStep (a .kind) (now (a .image)) (a .d)) (λ _. refused 8 alone) (a .d .total))
 
-class-of-requires : tie.Need-class-of-requires Inv-loop μ-loop
-class-of-requires c κs = search needs
+class-at-requires : tie.Need-class-at-requires Inv-loop μ-loop
+class-at-requires c κs = search needs
 
-entry-of-requires : tie.Need-entry-of-requires Inv-loop μ-loop
-entry-of-requires c κs = search needs
+fields-at-requires : tie.Need-fields-at-requires Inv-loop μ-loop
+fields-at-requires c κs = search needs
 
 returns : tie.Need-returns Inv-loop μ-loop
 returns c =
     let l = c .before .before .before .before .before in
     let a = l .before .before .args in
     let i = l .loop .i in
-    let hit = eq-eqb (entryOf (a .kind) (now (a .image)) (a .d) i .class) (a .kind .lead) (sym (c .before .before .before .class-of .ensures) ∙ c .before .if1 .taken) in
-    sym (scan-stop (leadStep (a .kind) (now (a .image)) (a .d)) (λ _. refused 8 alone) (a .d .total) i (given (c .entry-of .result)) (omega arith) (λ rest. ap (λ (b : Bool). cond b (given (entryOf (a .kind) (now (a .image)) (a .d) i)) rest) hit ∙ ap given (sym (c .entry-of .ensures)))) ∙ l .loop .inv .1
+    let hit = eq-eqb (entryOf (a .kind) (now (a .image)) (a .d) i .class) (a .kind .lead) (sym (c .before .before .before .class-at .ensures) ∙ c .before .if1 .taken) in
+    sym (scan-stop (leadStep (a .kind) (now (a .image)) (a .d)) (λ _. refused 8 alone) (a .d .total) i (given (c .fields-at .result)) (omega arith) (λ rest. ap (λ (b : Bool). cond b (given (entryOf (a .kind) (now (a .image)) (a .d) i)) rest) hit ∙ ap given (sym (c .fields-at .ensures)))) ∙ l .loop .inv .1
 
 add-i : tie.Need-add-i Inv-loop μ-loop
 add-i c = search needs
@@ -48,7 +48,7 @@ loop-again c =
     let l = c .before .before .before .before in
     let a = l .before .before .args in
     let i = l .loop .i in
-    let miss = ne-eqb (entryOf (a .kind) (now (a .image)) (a .d) i .class) (a .kind .lead) (λ q. c .if1 .left (c .before .before .class-of .ensures ∙ q)) in
+    let miss = ne-eqb (entryOf (a .kind) (now (a .image)) (a .d) i .class) (a .kind .lead) (λ q. c .if1 .left (c .before .before .class-at .ensures ∙ q)) in
     (omega arith, sym (scan-pass (leadStep (a .kind) (now (a .image)) (a .d)) (λ _. refused 8 alone) (a .d .total) i (omega arith) (λ rest. ap (λ (b : Bool). cond b (given (entryOf (a .kind) (now (a .image)) (a .d) i)) rest) miss)) ∙ l .loop .inv .1)
 
 returns-2 : tie.Need-returns-2 Inv-loop μ-loop
@@ -64,8 +64,8 @@ lead-in-spec =
     Inv-loop
     μ-loop
     loop-holds
-    class-of-requires
-    entry-of-requires
+    class-at-requires
+    fields-at-requires
     returns
     add-i
     loop-less

@@ -12,8 +12,8 @@ offset-requires c κs = search needs
 enum-known-o : tie.Need-enum-known-o
 enum-known-o c = search needs
 
-counted-requires : tie.Need-counted-requires
-counted-requires c κs = search needs
+place-in-requires : tie.Need-place-in-requires
+place-in-requires c κs = search needs
 
 returns-2 : tie.Need-returns-2
 returns-2 c = search lead-cases
@@ -24,14 +24,14 @@ enum-known-why c = search needs
 returns-3 : tie.Need-returns-3
 returns-3 c = search lead-cases
 
-counted-requires-2 : tie.Need-counted-requires-2
-counted-requires-2 c κs = search needs
+place-in-requires-2 : tie.Need-place-in-requires-2
+place-in-requires-2 c κs = search needs
 
 returns-4 : tie.Need-returns-4
 returns-4 c = search lead-cases
 
-counted-requires-3 : tie.Need-counted-requires-3
-counted-requires-3 c κs = search needs
+place-in-requires-3 : tie.Need-place-in-requires-3
+place-in-requires-3 c κs = search needs
 
 returns-5 : tie.Need-returns-5
 returns-5 c = search lead-cases
@@ -43,11 +43,11 @@ leads-to-spec =
     returns
     offset-requires
     enum-known-o
-    counted-requires
+    place-in-requires
     returns-2
     enum-known-why
     returns-3
-    counted-requires-2
+    place-in-requires-2
     returns-4
-    counted-requires-3
+    place-in-requires-3
     returns-5)

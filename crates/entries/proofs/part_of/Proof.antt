@@ -2,7 +2,7 @@ use borrow.Author.Tests.{eq-eqb, ne-eqb}
 use mathlib.Core.Path.{_≡_, _∙_}
 use denote.Ref.{now}
 use Rattle.reply.proofs.ReplyLaws.{then-told}
-use Rattle.entries.specs.Part.{rangedAt, partOf, toldPlace}
+use Rattle.entries.specs.Part.{partWithin, partOf, toldPlace}
 use borrow.Author.Needs.{needs}
 use Rattle.entries.proofs.part_of.Statement.{statement}
 use Rattle.entries.proofs.part_of.Tie as tie
@@ -20,8 +20,8 @@ leads-to-requires c κs = search needs
 enum-known-place : tie.Need-enum-known-place
 enum-known-place c = search needs
 
-ranged-requires : tie.Need-ranged-requires
-ranged-requires c κs = search needs
+part-within-requires : tie.Need-part-within-requires
+part-within-requires c κs = search needs
 
 enum-known-why : tie.Need-enum-known-why
 enum-known-why c = search needs
@@ -31,14 +31,14 @@ unfolding partOf
 returns-2 c =
     let l = c .before .before .before .before in
     let a = l .before .before .before .before .before .args in
-    simp (ne-eqb _ _ (l .before .if1 .left)) (c .ranged .ensures ∙ then-told toldPlace (rangedAt (now (a .image)) (a .e .size)) (c .before .before .place .given .1) (l .leads-to .ensures))
+    simp (ne-eqb _ _ (l .before .if1 .left)) (c .part-within .ensures ∙ then-told toldPlace (partWithin (now (a .image)) (a .e .size)) (c .before .before .place .given .1) (l .leads-to .ensures))
 
 returns-3 : tie.Need-returns-3
 unfolding partOf
 returns-3 c =
     let l = c .before .before .before in
     let a = l .before .before .before .before .before .args in
-    simp (ne-eqb _ _ (l .before .if1 .left)) (then-told toldPlace (rangedAt (now (a .image)) (a .e .size)) (c .before .why .given .1) (l .leads-to .ensures))
+    simp (ne-eqb _ _ (l .before .if1 .left)) (then-told toldPlace (partWithin (now (a .image)) (a .e .size)) (c .before .why .given .1) (l .leads-to .ensures))
 
 pub part-of-spec : {M : Type 1} → statement M
 part-of-spec =
@@ -48,7 +48,7 @@ part-of-spec =
     returns
     leads-to-requires
     enum-known-place
-    ranged-requires
+    part-within-requires
     enum-known-why
     returns-2
     returns-3)

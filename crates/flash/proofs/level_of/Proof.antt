@@ -29,14 +29,14 @@ enum-known-why c = search needs
 returns-2 : tie.Need-returns-2
 returns-2 c =
     let l = c .before .before .before .before in
-    let a = l .before .before .before .before .args in
-    simp (ne-eqb _ _ (l .before .if1 .left)) (c .level-two .ensures ∙ then-told toldDirectory (levelTwo (a .kind) (a .limit) (a .window) (now (a .image))) (c .before .before .d .given .1) (l .level-one2 .ensures))
+    let a = l .before .before .before .args in
+    simp (ne-eqb _ _ (l .before .if1 .left)) (c .level-two .ensures ∙ then-told toldDirectory (levelTwo (a .rules) (now (a .image))) (c .before .before .d .given .1) (l .level-one2 .ensures))
 
 returns-3 : tie.Need-returns-3
 returns-3 c =
     let l = c .before .before .before in
-    let a = l .before .before .before .before .args in
-    simp (ne-eqb _ _ (l .before .if1 .left)) (then-told toldDirectory (levelTwo (a .kind) (a .limit) (a .window) (now (a .image))) (c .before .why .given .1) (l .level-one2 .ensures))
+    let a = l .before .before .before .args in
+    simp (ne-eqb _ _ (l .before .if1 .left)) (then-told toldDirectory (levelTwo (a .rules) (now (a .image))) (c .before .why .given .1) (l .level-one2 .ensures))
 
 pub level-of-spec : {M : Type 1} → statement M
 level-of-spec =

@@ -13,8 +13,8 @@ lead-in-requires c κs = search needs
 enum-known-e : tie.Need-enum-known-e
 enum-known-e c = search needs
 
-led-to-requires : tie.Need-led-to-requires
-led-to-requires c κs = search needs
+level-two-led-requires : tie.Need-level-two-led-requires
+level-two-led-requires c κs = search needs
 
 enum-known-why : tie.Need-enum-known-why
 enum-known-why c = search needs
@@ -23,7 +23,7 @@ returns : tie.Need-returns
 returns c =
     let l = c .before .before .before .before in
     let a = l .before .before .args in
-    c .led-to .ensures ∙ then-told toldEntry (levelTwoAt (a .kind) (a .limit) (a .window) (now (a .image)) (a .d .place .0)) (c .before .before .e .given .1) (l .lead-in .ensures)
+    c .level-two-led .ensures ∙ then-told toldEntry (levelTwoAt (a .rules) (now (a .image)) (a .d .place .0)) (c .before .before .e .given .1) (l .lead-in .ensures)
 
 returns-2 : tie.Need-returns-2
 returns-2 c = then-told toldEntry _ (c .before .why .given .1) (c .before .before .before .lead-in .ensures)
@@ -31,4 +31,4 @@ returns-2 c = then-told toldEntry _ (c .before .why .given .1) (c .before .befor
 pub level-two-spec : {M : Type 1} → statement M
 level-two-spec =
     tie.close
-    (tie.spec lead-in-requires enum-known-e led-to-requires enum-known-why returns returns-2)
+    (tie.spec lead-in-requires enum-known-e level-two-led-requires enum-known-why returns returns-2)

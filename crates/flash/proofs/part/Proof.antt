@@ -1,22 +1,22 @@
 use mathlib.Core.Path.{_≡_, ap, _∙_}
 use denote.Ref.{now}
-use Rattle.reply.proofs.ReplyLaws.{then-told}
-use Rattle.window.specs.Window.{baseWindow}
-use Rattle.directory.specs.Directory.{pspKind, toldDirectory}
-use Rattle.entries.specs.Part.{partIn}
-use Rattle.directory.specs.declared.Kind.{Kind}
 use borrow.Author.Needs.{needs}
+use Rattle.reply.proofs.ReplyLaws.{then-told}
+use Rattle.directory.specs.Directory.{toldDirectory}
+use Rattle.entries.specs.Part.{partIn}
+use Rattle.efs.specs.declared.Rules.{Rules}
+use Rattle.flash.specs.Flash.{flashPart}
 use Rattle.flash.proofs.part.Statement.{statement}
 use Rattle.flash.proofs.part.Tie as tie
 
-directory-requires : tie.Need-directory-requires
-directory-requires c κs = search needs
+base-rules-requires : tie.Need-base-rules-requires
+base-rules-requires c κs = search needs
+
+flash-directory-requires : tie.Need-flash-directory-requires
+flash-directory-requires c κs = search needs
 
 enum-known-d : tie.Need-enum-known-d
 enum-known-d c = search needs
-
-psp-requires : tie.Need-psp-requires
-psp-requires c κs = search needs
 
 part-in-requires : tie.Need-part-in-requires
 part-in-requires c κs = search needs
@@ -26,21 +26,29 @@ enum-known-why c = search needs
 
 returns : tie.Need-returns
 returns c =
-    let m = c .before .before .before in
-    let a = m .before .before .before .before .args in
-    c .part-in .ensures ∙ ap (λ (k : Kind). partIn k baseWindow (now (a .image)) (m .d .given .0 .0) (a .i)) (c .before .psp .ensures)
-    ∙ then-told toldDirectory (λ d. partIn pspKind baseWindow (now (a .image)) d (a .i)) (m .d .given .1) (m .before .before .directory .ensures)
+    let f = c .before .before .before .before in
+    let b = f .before in
+    let a = b .before .before .args in
+    let s = now (a .image) in
+    c .part-in .ensures ∙ then-told toldDirectory (λ d. partIn (b .base-rules .result .kind) (b .base-rules .result .window) s d (a .i)) (c .before .before .d .given .1) (f .flash-directory .ensures)
+    ∙ ap (λ (r : Rules). flashPart r (a .level) s (a .i)) (b .base-rules .ensures)
 
 returns-2 : tie.Need-returns-2
-returns-2 c = then-told toldDirectory _ (c .before .why .given .1) (c .before .before .before .directory .ensures)
+returns-2 c =
+    let f = c .before .before .before in
+    let b = f .before in
+    let a = b .before .before .args in
+    let s = now (a .image) in
+    then-told toldDirectory (λ d. partIn (b .base-rules .result .kind) (b .base-rules .result .window) s d (a .i)) (c .before .why .given .1) (f .flash-directory .ensures)
+    ∙ ap (λ (r : Rules). flashPart r (a .level) s (a .i)) (b .base-rules .ensures)
 
 pub part-spec : {M : Type 1} → statement M
 part-spec =
     tie.close
     (tie.spec
-    directory-requires
+    base-rules-requires
+    flash-directory-requires
     enum-known-d
-    psp-requires
     part-in-requires
     enum-known-why
     returns

@@ -5,7 +5,7 @@ use native.Mathlib.Omega.{arith}
 use denote.Ref.{now}
 use lib.ListN.{length}
 use Rattle.reply.specs.Reply.{given, then}
-use Rattle.guids.specs.Table.{lengthBefore, entryBefore, entriesBefore, entriesUnder, findIn, toldTotal}
+use Rattle.guids.specs.Table.{lengthBefore, entryBefore, entriesBefore, entriesUnder, findIn, toldLength}
 use Rattle.guids.proofs.Walk.{header-facts, length-facts, seen-all, seen-refused, seen-one, findFrom, find-start, find-end, find-here, find-behind}
 use Rattle.guids.proofs.find_under.Statement.{statement}
 use Rattle.guids.proofs.find_under.Tie as tie
@@ -20,7 +20,7 @@ abbrev μ-loop : tie.MeasureT-loop
 -- the length of the entry that ends here, as the definition gives it
 length-is : (c : tie.After-known-told Inv-loop μ-loop) → let l = c .before .before .before .before .before .loop in
     lengthBefore (now (c .before .before .before .before .before .before .before .args .image)) (l .end) (l .left) ≡ given (c .before .size .given .0 .0)
-length-is c = sym (c .before .before .before .length-before .ensures) ∙ ap toldTotal (c .before .size .given .1)
+length-is c = sym (c .before .before .before .length-before .ensures) ∙ ap toldLength (c .before .size .given .1)
 
 fits : (c : tie.After-known-told Inv-loop μ-loop) → (18 ≤ c .before .size .given .0 .0) × (c .before .size .given .0 .0 ≤ c .before .before .before .before .before .loop .left)
 fits c = let f = length-facts _ _ _ _ (length-is c) in (f .1, f .2)
@@ -109,7 +109,7 @@ enum-known-why c = search needs
 returns-2 : tie.Need-returns-2 Inv-loop μ-loop
 returns-2 c =
     let l = c .before .before .before .before .before .loop in
-    seen-refused _ (l .end) (l .left) (findFrom (c .before .before .before .before .before .before .before .args .guid) (l .before)) _ (l .inv .3) (omega arith) _ _ (sym (c .before .before .before .length-before .ensures) ∙ ap toldTotal (c .before .why .given .1))
+    seen-refused _ (l .end) (l .left) (findFrom (c .before .before .before .before .before .before .before .args .guid) (l .before)) _ (l .inv .3) (omega arith) _ _ (sym (c .before .before .before .length-before .ensures) ∙ ap toldLength (c .before .why .given .1))
 
 returns-3 : tie.Need-returns-3 Inv-loop μ-loop
 returns-3 c =

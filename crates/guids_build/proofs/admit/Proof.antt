@@ -6,7 +6,7 @@ use lib.ListN.{length}
 use Rattle.reply.specs.Reply.{given}
 use Rattle.reply.proofs.ReplyLaws.{then-told}
 use Rattle.guids.specs.declared.Totals.{Totals}
-use Rattle.guids.specs.Table.{toldTable}
+use Rattle.guids.specs.Table.{toldTotals}
 use Rattle.guids_build.specs.Write.{roomFor}
 use Rattle.guids.proofs.Walk.{good-table}
 use borrow.Author.Needs.{needs}
@@ -31,7 +31,7 @@ add-room-for c = search needs
 room-for-requires : tie.Need-room-for-requires
 room-for-requires c κs =
     let b = c .before .before .before .before .before .before .before in
-    let g = good-table _ _ (sym (c .before .before .before .before .table .ensures) ∙ ap toldTable (c .before .before .t .given .1)) in
+    let g = good-table _ _ (sym (c .before .before .before .before .table .ensures) ∙ ap toldTotals (c .before .before .t .given .1)) in
     (omega arith, omega (arith, g .header))
 
 enum-known-why : tie.Need-enum-known-why
@@ -42,13 +42,13 @@ returns c =
     let a = c .before .before .before .before .before .before .before .before .args in
     let n = length (now (a .bytes)) + 18 in
     c .room-for .ensures
-    ∙ then-told toldTable (λ (t : Totals). roomFor (now (a .buf)) n (t .total + n)) (c .before .before .before .t .given .1) (c .before .before .before .before .before .table .ensures)
+    ∙ then-told toldTotals (λ (t : Totals). roomFor (now (a .buf)) n (t .total + n)) (c .before .before .before .t .given .1) (c .before .before .before .before .before .table .ensures)
 
 returns-2 : tie.Need-returns-2
 returns-2 c =
     let a = c .before .before .before .before .before .before .args in
     let n = length (now (a .bytes)) + 18 in
-    then-told toldTable (λ (t : Totals). roomFor (now (a .buf)) n (t .total + n)) (c .before .why .given .1) (c .before .before .before .table .ensures)
+    then-told toldTotals (λ (t : Totals). roomFor (now (a .buf)) n (t .total + n)) (c .before .why .given .1) (c .before .before .before .table .ensures)
 
 pub admit-spec : {M : Type 1} → statement M
 admit-spec =

@@ -4,18 +4,18 @@ use native.Mathlib.Omega.{arith}
 use denote.Ref.{now}
 use lib.ListN.{length, take, drop}
 use borrow.Author.Tests.{le-leb, lt-leb}
-use Rattle.guids_build.specs.Write.{allZero, roomFor}
+use Rattle.guids_build.specs.Write.{allZero, beginsAt, roomFor}
 use borrow.Author.Needs.{needs}
 use Rattle.guids_build.proofs.room_for.Statement.{statement}
 use Rattle.guids_build.proofs.room_for.Tie as tie
 
 -- the test of the bytes to be used, as the definition has it
 zeros : (c : tie.After-all-zero) → let a = c .before .before .before .before .before .args in let s = now (a .buf) in
-    c .all-zero .result ≡ allZero (take (a .more) (drop (length s - 32 - a .total) s))
+    c .all-zero .result ≡ allZero (take (a .more) (drop (beginsAt s (a .total)) s))
 zeros c =
     let a = c .before .before .before .before .before .args in
     let s = now (a .buf) in
-    let from = length s - 32 - a .total in
+    let from = beginsAt s (a .total) in
     let e : from + a .more - from ≡ a .more = omega arith in
     c .all-zero .ensures ∙ ap (λ (k : ℕ). allZero (take k (drop from s))) e
 

@@ -1,10 +1,8 @@
 use mathlib.Core.Path.{sym, ap, _∙_}
 use native.Mathlib.Omega.{arith}
-use Prim.Native.Nat.{_-_}
 use denote.Ref.{now}
-use lib.ListN.{length}
 use Rattle.le.specs.Le.{putBytes}
-use Rattle.guids.specs.Table.{endBytes}
+use Rattle.guids.specs.Table.{footerAt, endBytes}
 use Rattle.guids_build.specs.Write.{startedBy}
 use Rattle.guids.proofs.Walk.{footer-is}
 use Rattle.guids_build.proofs.Writing.{start-none, start-some}
@@ -21,8 +19,14 @@ returns c =
 sub-at : tie.Need-sub-at
 sub-at c = search needs
 
+cast-put-end : tie.Need-cast-put-end
+cast-put-end c = search needs
+
 put-end-requires : tie.Need-put-end-requires
 put-end-requires c κs = search needs
+
+cast-t11 : tie.Need-cast-t11
+cast-t11 c = search needs
 
 same-length : tie.Need-same-length
 same-length c = search needs
@@ -31,7 +35,7 @@ returns-2 : tie.Need-returns-2
 returns-2 c =
     let s = now (c .before .before .before .before .before .before .args .buf) in
     let e = sym (start-some s (omega arith)) in
-    (e, c .before .before .put-end .ensures ∙ ap (λ g. putBytes (endBytes 18 g) s (length s - 50)) footer-is ∙ ap (startedBy s) e)
+    (e, c .before .before .put-end .ensures ∙ ap (λ g. putBytes (endBytes 18 g) s (footerAt s)) footer-is ∙ ap (startedBy s) e)
 
 pub start-spec : {M : Type 1} → statement M
-start-spec = tie.close (tie.spec returns sub-at put-end-requires same-length returns-2)
+start-spec = tie.close (tie.spec returns sub-at cast-put-end put-end-requires cast-t11 same-length returns-2)

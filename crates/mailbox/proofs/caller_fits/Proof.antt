@@ -10,8 +10,8 @@ mul-place c = search needs
 array-copy-out-place : tie.Need-array-copy-out-place
 array-copy-out-place c = search needs
 
-times-requires : tie.Need-times-requires
-times-requires c κs = search needs
+times-in-requires : tie.Need-times-in-requires
+times-in-requires c κs = search needs
 
 holds-requires : tie.Need-holds-requires
 holds-requires c κs = search needs
@@ -31,7 +31,7 @@ caller-fits-spec =
     (tie.spec
     mul-place
     array-copy-out-place
-    times-requires
+    times-in-requires
     holds-requires
     add-result
     waits-requires

@@ -4,13 +4,13 @@ use Prim.Native.Nat.{_≤_}
 use native.Mathlib.Omega.{arith}
 use mathlib.Core.Path.{_≡_, refl}
 use lib.ListN.{take}
-use Rattle.mailbox.specs.Consistent.{fitCaller, allBelow}
+use Rattle.mailbox.specs.Consistent.{callerFits, allBelow}
 use Rattle.mailbox.proofs.ConsistentLaws.{all-step, all-stop, all-end}
 use Rattle.mailbox.proofs.callers_fit.Statement.{statement}
 use Rattle.mailbox.proofs.callers_fit.Tie as tie
 
 abbrev Inv-loop : tie.InvT-loop
-Inv-loop line n register places caller₀ caller = (caller ≤ 8) × (allBelow 8 (fitCaller (take n line) register places) ≡ allBelow caller (fitCaller (take n line) register places))
+Inv-loop line n register places caller₀ caller = (caller ≤ 8) × (allBelow 8 (callerFits (take n line) register places) ≡ allBelow caller (callerFits (take n line) register places))
 
 abbrev μ-loop : tie.MeasureT-loop
 μ-loop line n register places caller₀ caller = caller

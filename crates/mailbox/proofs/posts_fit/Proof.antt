@@ -4,13 +4,13 @@ use Prim.Native.Nat.{_≤_}
 use native.Mathlib.Omega.{arith}
 use mathlib.Core.Path.{_≡_, refl}
 use lib.ListN.{take}
-use Rattle.mailbox.specs.Consistent.{fitPosts}
+use Rattle.mailbox.specs.Consistent.{postsFit}
 use Rattle.mailbox.proofs.ConsistentLaws.{fit-step, fit-stop, fit-end}
 use Rattle.mailbox.proofs.posts_fit.Statement.{statement}
 use Rattle.mailbox.proofs.posts_fit.Tie as tie
 
 abbrev Inv-loop : tie.InvT-loop
-Inv-loop n line i₀ i = (i ≤ n) × (fitPosts (take n line) ≡ fitPosts (take i line))
+Inv-loop n line i₀ i = (i ≤ n) × (postsFit (take n line) ≡ postsFit (take i line))
 
 abbrev μ-loop : tie.MeasureT-loop
 μ-loop n line i₀ i = i

@@ -1,7 +1,7 @@
 -- `mailbox_words::post` meets its contract. Assumes nothing.
 use denote.Ref.{now}
-use Rattle.mailbox.specs.Calls.{accepted, postOf}
-use Rattle.mailbox_words.specs.Layout.{unpackOf}
+use Rattle.mailbox_calls.specs.Calls.{accepted, postOf}
+use Rattle.mailbox_layout.specs.Layout.{unpackOf}
 use Rattle.mailbox_words.specs.Calls.{layAccepted}
 use Rattle.mailbox_words.proofs.CallLaws.{served, served-long, in-places, state-is, has-room, call-5, call-refused, call-given, post-bad, post-caller, post-command, post-waiting, post-ready, post-free, no-length, no-value}
 use borrow.Author.Needs.{needs}

@@ -1,8 +1,8 @@
 -- `mailbox_words::take` meets its contract. Assumes nothing.
 use lib.ListN.{length}
 use denote.Ref.{now}
-use Rattle.mailbox.specs.Calls.{takeOf}
-use Rattle.mailbox_words.specs.Layout.{unpackOf}
+use Rattle.mailbox_calls.specs.Calls.{takeOf}
+use Rattle.mailbox_layout.specs.Layout.{unpackOf}
 use Rattle.mailbox_words.specs.Calls.{layWord}
 use Rattle.mailbox_words.proofs.WrittenLaws.{free-words}
 use Rattle.mailbox_words.proofs.CallLaws.{served, in-places, state-is, call-5, call-refused, call-12, call-given, take-bad, take-caller, take-free, take-waiting, take-ready, short-one, not-none, one-value}

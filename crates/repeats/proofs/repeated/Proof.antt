@@ -12,23 +12,23 @@ returns-2 : tie.Need-returns-2
 unfolding flashRepeats
 returns-2 c = simp (le-leb _ _ (c .before .if1 .left), lt-leb _ _ (c .if2 .taken))
 
-level-one-requires : tie.Need-level-one-requires
-level-one-requires c κs = search needs
+repeats-one-requires : tie.Need-repeats-one-requires
+repeats-one-requires c κs = search needs
 
 returns-3 : tie.Need-returns-3
 unfolding flashRepeats
 returns-3 c =
-    simp (le-leb _ _ (c .before .before .before .if1 .left), le-leb _ _ (c .before .before .if2 .left), eq-eqb _ _ (c .before .if3 .taken)) (c .level-one .ensures)
+    simp (le-leb _ _ (c .before .before .before .if1 .left), le-leb _ _ (c .before .before .if2 .left), eq-eqb _ _ (c .before .if3 .taken)) (c .repeats-one .ensures)
 
-level-two-requires : tie.Need-level-two-requires
-level-two-requires c κs = search needs
+repeats-two-requires : tie.Need-repeats-two-requires
+repeats-two-requires c κs = search needs
 
 returns-4 : tie.Need-returns-4
 unfolding flashRepeats
 returns-4 c =
-    simp (le-leb _ _ (c .before .before .before .if1 .left), le-leb _ _ (c .before .before .if2 .left), ne-eqb _ _ (c .before .if3 .left)) (c .level-two .ensures)
+    simp (le-leb _ _ (c .before .before .before .if1 .left), le-leb _ _ (c .before .before .if2 .left), ne-eqb _ _ (c .before .if3 .left)) (c .repeats-two .ensures)
 
 pub repeated-spec : {M : Type 1} → statement M
 repeated-spec =
     tie.close
-    (tie.spec returns returns-2 level-one-requires returns-3 level-two-requires returns-4)
+    (tie.spec returns returns-2 repeats-one-requires returns-3 repeats-two-requires returns-4)

@@ -5,7 +5,8 @@ use borrow.Author.Tests.{le-leb, lt-leb, eq-eqb, ne-eqb}
 use borrow.Author.Needs.{needs}
 use Rattle.le.specs.Le.{leAt}
 use Rattle.reply.specs.Reply.{given}
-use Rattle.version.specs.Version.{mark, versionOf}
+use Rattle.version.specs.Header.{ps1}
+use Rattle.version.specs.Version.{versionOf}
 use Rattle.version.proofs.version.Statement.{statement}
 use Rattle.version.proofs.version.Tie as tie
 
@@ -20,7 +21,7 @@ returns-2 : tie.Need-returns-2
 unfolding versionOf
 returns-2 c =
     let s = now (c .before .before .before .before .args .bytes) in
-    simp (le-leb _ _ (c .before .before .if1 .left), ne-eqb (leAt 4 s 0x10) mark (λ q. c .if2 .taken (cc)))
+    simp (le-leb _ _ (c .before .before .if1 .left), ne-eqb (leAt 4 s 0x10) ps1 (λ q. c .if2 .taken (cc)))
 
 u32-at-requires-2 : tie.Need-u32-at-requires-2
 u32-at-requires-2 c κs = search needs
@@ -29,7 +30,7 @@ returns-3 : tie.Need-returns-3
 unfolding versionOf
 returns-3 c =
     let s = now (c .before .before .before .before .before .args .bytes) in
-    simp (le-leb _ _ (c .before .before .before .if1 .left), eq-eqb (leAt 4 s 0x10) mark (cc)) (ap given (c .u32-at2 .ensures))
+    simp (le-leb _ _ (c .before .before .before .if1 .left), eq-eqb (leAt 4 s 0x10) ps1 (cc)) (ap given (c .u32-at2 .ensures))
 
 pub version-spec : {M : Type 1} → statement M
 version-spec = tie.close (tie.spec returns u32-at-requires returns-2 u32-at-requires-2 returns-3)

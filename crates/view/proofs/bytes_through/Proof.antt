@@ -3,7 +3,7 @@ use mathlib.Core.Path.{_≡_, refl, ap, _∙_}
 use mathlib.Core.List.{List}
 use Prim.Native.Nat.{ℕ}
 use denote.Ref.{now}
-use Rattle.flash.specs.Flash.{base}
+use Rattle.efs.specs.Rules.{baseRules}
 use Rattle.place.specs.Place.{partAt, viewImage, partThrough}
 use Rattle.entries.specs.Part.{bytesOf, beginOf}
 use denote.Triple.Spec.{tripleOf}
@@ -26,11 +26,11 @@ abbrev passed : through.Passed
 passed = record {
   maker = of-level;
   result = bytes;
-  Whole = λ s l i κs r. (now r ≡ bytesOf (viewImage base l (now s)) (partThrough base l (now s) i)) × (r .ptr ≡ beginOf (s .ptr) (partThrough base l (now s) i));
+  Whole = λ s l i κs r. (now r ≡ bytesOf (viewImage baseRules l (now s)) (partThrough baseRules l (now s) i)) × (r .ptr ≡ beginOf (s .ptr) (partThrough baseRules l (now s) i));
   carried = λ s l i d κs r m e.
-      let v = viewImage base l (now s) in (
-        e .0 ∙ (ap (λ (x : List ℕ). bytesOf x (partAt base x (d .place) i)) (m .0) ∙ ap (λ (x : ℕ). bytesOf v (partAt base v x i)) (m .2)),
-        e .1 ∙ (ap (λ (p : ℕ × ℕ). beginOf p (partAt base (now (d .image)) (d .place) i)) (m .1) ∙ (ap (λ (x : List ℕ). beginOf (s .ptr) (partAt base x (d .place) i)) (m .0) ∙ ap (λ (x : ℕ). beginOf (s .ptr) (partAt base v x i)) (m .2))),
+      let v = viewImage baseRules l (now s) in (
+        e .0 ∙ (ap (λ (x : List ℕ). bytesOf x (partAt baseRules x (d .place) i)) (m .0) ∙ ap (λ (x : ℕ). bytesOf v (partAt baseRules v x i)) (m .2)),
+        e .1 ∙ (ap (λ (p : ℕ × ℕ). beginOf p (partAt baseRules (now (d .image)) (d .place) i)) (m .1) ∙ (ap (λ (x : List ℕ). beginOf (s .ptr) (partAt baseRules x (d .place) i)) (m .0) ∙ ap (λ (x : ℕ). beginOf (s .ptr) (partAt baseRules v x i)) (m .2))),
       );
 }
 

@@ -3,7 +3,7 @@ use mathlib.Core.Path.{_≡_, refl, ap, _∙_}
 use mathlib.Core.List.{List}
 use Prim.Native.Nat.{ℕ}
 use denote.Ref.{now}
-use Rattle.flash.specs.Flash.{base}
+use Rattle.efs.specs.Rules.{baseRules}
 use Rattle.place.specs.Place.{entryAt, viewImage, entryThrough}
 use Rattle.entries.specs.Entry.{toldEntry}
 use denote.Triple.Spec.{tripleOf}
@@ -26,8 +26,8 @@ abbrev passed : through.Passed
 passed = record {
   maker = of-level;
   result = entry;
-  Whole = λ s l i κs r. toldEntry r ≡ entryThrough base l (now s) i;
-  carried = λ s l i d κs r m e. e ∙ (ap (λ (x : List ℕ). entryAt base x (d .place) i) (m .0) ∙ ap (λ (x : ℕ). entryAt base (viewImage base l (now s)) x i) (m .2));
+  Whole = λ s l i κs r. toldEntry r ≡ entryThrough baseRules l (now s) i;
+  carried = λ s l i d κs r m e. e ∙ (ap (λ (x : List ℕ). entryAt baseRules x (d .place) i) (m .0) ∙ ap (λ (x : ℕ). entryAt baseRules (viewImage baseRules l (now s)) x i) (m .2));
 }
 
 says : through.Says passed (λ M. entry-through.clauses)

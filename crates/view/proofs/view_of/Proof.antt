@@ -38,7 +38,7 @@ use denote.Triple.Table.{entered, cited}
 use denote.Triple.Walked.{says, Stays, stay-none, stay-none-slice, walkOf, goes-none, goes-none-slice, Walks, ends-at, walked, walk-meets}
 use denote.Exit.{yes}
 use denote.Triple.Clauses.{ensured, lasts}
-use Rattle.flash.specs.Flash.{base as reading}
+use Rattle.efs.specs.Rules.{baseRules as reading}
 use Rattle.place.specs.Place.{viewImage, viewPlace}
 use Rattle.view.specs.declared.View.{View}
 use Rattle.view.proofs.View as T

@@ -1,7 +1,7 @@
 use mathlib.Core.Path.{sym, ap, _∙_}
 use Rattle.lent.proofs.Laws.{given-number, given-words, alone-number, alone-words}
 use Rattle.entries.specs.Entry.{toldEntry}
-use Rattle.image_words.specs.Images.{layEntry}
+use Rattle.flash_words.specs.Images.{layEntry}
 use borrow.Author.Needs.{needs}
 use Rattle.view_words.proofs.entry.Statement.{statement}
 use Rattle.view_words.proofs.entry.Tie as tie

@@ -1,7 +1,7 @@
 use mathlib.Core.Path.{sym, ap, _∙_}
 use Rattle.lent.proofs.Laws.{given-number, given-words, alone-number, alone-words}
 use Rattle.directory.specs.Directory.{toldDirectory}
-use Rattle.image_words.specs.Images.{layPlace}
+use Rattle.flash_words.specs.Images.{layPlace}
 use borrow.Author.Needs.{needs}
 use Rattle.view_words.proofs.view.Statement.{statement}
 use Rattle.view_words.proofs.view.Tie as tie

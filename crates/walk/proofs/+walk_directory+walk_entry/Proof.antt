@@ -3,7 +3,7 @@ use Prim.Native.Nat.{_+_, _*_, _-_}
 use native.Mathlib.Omega.{arith}
 use borrow.Author.Needs.{needs}
 use denote.Ref.{now}
-use Rattle.walk.specs.Walk.{toldFound}
+use Rattle.walk.specs.Walk.{toldImageMatch}
 use Rattle.walk.proofs.Steps.{walk-none, walk-whole, by-match, by-pass, by-fault, enter-facts, enter-given, enter-refused, enter-absent, enter-count}
 use Prim.Native.Nat.{ℕ, _<_}
 use borrow.Fn.Kinds.{In}
@@ -63,7 +63,7 @@ walk-directory-returns : (t : ℕ) → walk-directory-lts.Need-returns (
 ) (walk-directory-at t) walk-directory.Post
 walk-directory-returns t c =
     let a = c .before .before .args in
-    c .walk-entry .ensures ∙ walk-whole (a .depth) (a .by .kind) (a .by .limit) (a .by .window) (now (a .image)) (a .d) (a .by .class) (a .by .sub) (a .tested)
+    c .walk-entry .ensures ∙ walk-whole (a .depth) (a .by .rules) (now (a .image)) (a .d) (a .by .class) (a .by .sub) (a .tested)
 
 -- src/lib.rt:134:9
 walk-entry-pass-by-requires : (t : ℕ) → walk-entry-lts.Need-pass-by-requires (
@@ -119,7 +119,7 @@ walk-entry-returns t c =
     let a = c .before .before .before .args in
     let pb = c .before .pass-by in
     let r = pb .result in
-    (walk-none (a .depth) (a .by .kind) (a .by .limit) (a .by .window) (now (a .image)) (a .d) (a .by .class) (a .by .sub) r (a .d .total - r) (a .tested + (a .left - r)) (c .if1 .taken)) ∙ pb .ensures .1
+    (walk-none (a .depth) (a .by .rules) (now (a .image)) (a .d) (a .by .class) (a .by .sub) r (a .d .total - r) (a .tested + (a .left - r)) (c .if1 .taken)) ∙ pb .ensures .1
 
 -- src/lib.rt:139:13
 walk-entry-sub-i : (t : ℕ) → walk-entry-lts.Need-sub-i (
@@ -255,7 +255,7 @@ walk-entry-sub-walk-directory t c =
     let r = pb .result in
     let n = c .before .n .given in
     let q = sym (n .1) ∙ c .before .before .before .probe-entry .ensures in
-    omega (arith, enter-facts (a .depth) (a .by .kind) (a .by .limit) (a .by .window) (now (a .image)) (a .d) (a .by .class) (a .by .sub) r (a .tested + (a .left - r)) (omega arith) (omega arith) (n .0 .0) q .0)
+    omega (arith, enter-facts (a .depth) (a .by .rules) (now (a .image)) (a .d) (a .by .class) (a .by .sub) r (a .tested + (a .left - r)) (omega arith) (omega arith) (n .0 .0) q .0)
 
 -- src/lib.rt:151:74
 walk-entry-add-walk-directory : (t : ℕ) → walk-entry-lts.Need-add-walk-directory (
@@ -287,7 +287,7 @@ walk-entry-walk-directory-requires t c κs =
     let r = pb .result in
     let n = c .before .n .given in
     let q = sym (n .1) ∙ c .before .before .before .probe-entry .ensures in
-    let f = enter-facts (a .depth) (a .by .kind) (a .by .limit) (a .by .window) (now (a .image)) (a .d) (a .by .class) (a .by .sub) r (a .tested + (a .left - r)) (omega arith) (omega arith) (n .0 .0) q in
+    let f = enter-facts (a .depth) (a .by .rules) (now (a .image)) (a .d) (a .by .class) (a .by .sub) r (a .tested + (a .left - r)) (omega arith) (omega arith) (n .0 .0) q in
     omega (arith, f .0, f .1)
 
 -- src/lib.rt:152:27
@@ -346,9 +346,9 @@ walk-entry-walk-entry-requires-2 t c κs =
     let r = pb .result in
     let n = c .before .before .before .before .before .n .given in
     let q = sym (n .1) ∙ c .before .before .before .before .before .before .before .probe-entry .ensures in
-    let f = enter-facts (a .depth) (a .by .kind) (a .by .limit) (a .by .window) (now (a .image)) (a .d) (a .by .class) (a .by .sub) r (a .tested + (a .left - r)) (omega arith) (omega (arith, pb .ensures .0, c .before .before .before .before .before .before .before .before .before .before .before .before .pre)) (n .0 .0) q in
+    let f = enter-facts (a .depth) (a .by .rules) (now (a .image)) (a .d) (a .by .class) (a .by .sub) r (a .tested + (a .left - r)) (omega arith) (omega (arith, pb .ensures .0, c .before .before .before .before .before .before .before .before .before .before .before .before .pre)) (n .0 .0) q in
     let u = c .before .t .given in
-    omega (arith, f .0, f .1, enter-count (a .depth) (a .by .kind) (a .by .limit) (a .by .window) (now (a .image)) (a .d) (a .by .class) (a .by .sub) r (a .tested + (a .left - r)) (omega arith) (omega (arith, pb .ensures .0, c .before .before .before .before .before .before .before .before .before .before .before .before .pre)) (n .0 .0) q (u .0 .0) (ap toldFound (sym (u .1)) ∙ c .before .before .before .walk-directory .ensures) (omega (arith, pb .ensures .0, c .before .before .before .before .before .before .before .before .before .before .before .before .pre)), pb .ensures .0, c .before .before .before .before .before .before .before .before .before .before .before .before .pre)
+    omega (arith, f .0, f .1, enter-count (a .depth) (a .by .rules) (now (a .image)) (a .d) (a .by .class) (a .by .sub) r (a .tested + (a .left - r)) (omega arith) (omega (arith, pb .ensures .0, c .before .before .before .before .before .before .before .before .before .before .before .before .pre)) (n .0 .0) q (u .0 .0) (ap toldImageMatch (sym (u .1)) ∙ c .before .before .before .walk-directory .ensures) (omega (arith, pb .ensures .0, c .before .before .before .before .before .before .before .before .before .before .before .before .pre)), pb .ensures .0, c .before .before .before .before .before .before .before .before .before .before .before .before .pre)
 
 -- src/lib.rt:154:29
 walk-entry-enum-known-why : (t : ℕ) → walk-entry-lts.Need-enum-known-why (
@@ -391,7 +391,7 @@ walk-entry-returns-2 t c =
     let a = c .before .before .before .before .before .before .before .before .args in
     let pb = c .before .before .before .before .before .before .pass-by in
     let r = pb .result in
-    (by-match (a .depth) (a .by .kind) (a .by .limit) (a .by .window) (now (a .image)) (a .d) (a .by .class) (a .by .sub) r (a .tested + (a .left - r)) (omega arith) (omega arith) (sym (c .before .enum-told .given .1) ∙ c .before .before .before .probe-entry .ensures)) ∙ pb .ensures .1
+    (by-match (a .depth) (a .by .rules) (now (a .image)) (a .d) (a .by .class) (a .by .sub) r (a .tested + (a .left - r)) (omega arith) (omega arith) (sym (c .before .enum-told .given .1) ∙ c .before .before .before .probe-entry .ensures)) ∙ pb .ensures .1
 
 -- src/lib.rt:130:1
 walk-entry-returns-3 : (t : ℕ) → walk-entry-lts.Need-returns-3 (
@@ -408,7 +408,7 @@ walk-entry-returns-3 t c =
     let a = c .before .before .before .before .before .before .before .before .args in
     let pb = c .before .before .before .before .before .before .pass-by in
     let r = pb .result in
-    (c .walk-entry .ensures ∙ by-pass (a .depth) (a .by .kind) (a .by .limit) (a .by .window) (now (a .image)) (a .d) (a .by .class) (a .by .sub) r (a .tested + (a .left - r)) (omega arith) (omega arith) (sym (c .before .enum-told2 .given .1) ∙ c .before .before .before .probe-entry .ensures)) ∙ pb .ensures .1
+    (c .walk-entry .ensures ∙ by-pass (a .depth) (a .by .rules) (now (a .image)) (a .d) (a .by .class) (a .by .sub) r (a .tested + (a .left - r)) (omega arith) (omega arith) (sym (c .before .enum-told2 .given .1) ∙ c .before .before .before .probe-entry .ensures)) ∙ pb .ensures .1
 
 -- src/lib.rt:130:1
 walk-entry-returns-4 : (t : ℕ) → walk-entry-lts.Need-returns-4 (
@@ -428,7 +428,7 @@ walk-entry-returns-4 t c =
     let n = c .before .before .before .before .before .n .given in
     let q = sym (n .1) ∙ c .before .before .before .before .before .before .before .probe-entry .ensures in
     let f = c .before .f .given in
-    (enter-given (a .depth) (a .by .kind) (a .by .limit) (a .by .window) (now (a .image)) (a .d) (a .by .class) (a .by .sub) r (a .tested + (a .left - r)) (omega (arith, c .before .before .before .before .before .before .before .before .before .if1 .left)) (omega (arith, c .before .before .before .before .before .before .before .before .before .before .before .before .pre)) (n .0 .0) q (f .0 .0) (ap toldFound (sym (f .1)) ∙ c .before .before .before .walk-directory .ensures)) ∙ pb .ensures .1
+    (enter-given (a .depth) (a .by .rules) (now (a .image)) (a .d) (a .by .class) (a .by .sub) r (a .tested + (a .left - r)) (omega (arith, c .before .before .before .before .before .before .before .before .before .if1 .left)) (omega (arith, c .before .before .before .before .before .before .before .before .before .before .before .before .pre)) (n .0 .0) q (f .0 .0) (ap toldImageMatch (sym (f .1)) ∙ c .before .before .before .walk-directory .ensures)) ∙ pb .ensures .1
 
 -- src/lib.rt:130:1
 walk-entry-returns-5 : (t : ℕ) → walk-entry-lts.Need-returns-5 (
@@ -448,7 +448,7 @@ walk-entry-returns-5 t c =
     let n = c .before .before .before .before .before .before .n .given in
     let q = sym (n .1) ∙ c .before .before .before .before .before .before .before .before .probe-entry .ensures in
     let u = c .before .before .t .given in
-    (c .walk-entry2 .ensures ∙ enter-absent (a .depth) (a .by .kind) (a .by .limit) (a .by .window) (now (a .image)) (a .d) (a .by .class) (a .by .sub) r (a .tested + (a .left - r)) (omega (arith, c .before .before .before .before .before .before .before .before .before .before .if1 .left)) (omega (arith, c .before .before .before .before .before .before .before .before .before .before .before .before .before .pre)) (n .0 .0) q (u .0 .0) (ap toldFound (sym (u .1)) ∙ c .before .before .before .before .walk-directory .ensures)) ∙ pb .ensures .1
+    (c .walk-entry2 .ensures ∙ enter-absent (a .depth) (a .by .rules) (now (a .image)) (a .d) (a .by .class) (a .by .sub) r (a .tested + (a .left - r)) (omega (arith, c .before .before .before .before .before .before .before .before .before .before .if1 .left)) (omega (arith, c .before .before .before .before .before .before .before .before .before .before .before .before .before .pre)) (n .0 .0) q (u .0 .0) (ap toldImageMatch (sym (u .1)) ∙ c .before .before .before .before .walk-directory .ensures)) ∙ pb .ensures .1
 
 -- src/lib.rt:130:1
 walk-entry-returns-6 : (t : ℕ) → walk-entry-lts.Need-returns-6 (
@@ -468,7 +468,7 @@ walk-entry-returns-6 t c =
     let n = c .before .before .before .before .before .n .given in
     let q = sym (n .1) ∙ c .before .before .before .before .before .before .before .probe-entry .ensures in
     let w = c .before .why .given in
-    (enter-refused (a .depth) (a .by .kind) (a .by .limit) (a .by .window) (now (a .image)) (a .d) (a .by .class) (a .by .sub) r (a .tested + (a .left - r)) (omega arith) (omega (arith, pb .ensures .0, c .before .before .before .before .before .before .before .before .before .before .before .before .pre)) (n .0 .0) q (w .0 .0 .number) (ap toldFound (sym (w .1)) ∙ c .before .before .before .walk-directory .ensures)) ∙ pb .ensures .1
+    (enter-refused (a .depth) (a .by .rules) (now (a .image)) (a .d) (a .by .class) (a .by .sub) r (a .tested + (a .left - r)) (omega arith) (omega (arith, pb .ensures .0, c .before .before .before .before .before .before .before .before .before .before .before .before .pre)) (n .0 .0) q (w .0 .0 .number) (ap toldImageMatch (sym (w .1)) ∙ c .before .before .before .walk-directory .ensures)) ∙ pb .ensures .1
 
 -- src/lib.rt:130:1
 walk-entry-returns-7 : (t : ℕ) → walk-entry-lts.Need-returns-7 (
@@ -486,7 +486,7 @@ walk-entry-returns-7 t c =
     let pb = c .before .before .before .before .before .before .pass-by in
     let r = pb .result in
     let w = c .before .why2 .given in
-    (by-fault (a .depth) (a .by .kind) (a .by .limit) (a .by .window) (now (a .image)) (a .d) (a .by .class) (a .by .sub) r (a .tested + (a .left - r)) (omega arith) (omega arith) (w .0 .0) (sym (w .1) ∙ c .before .before .before .probe-entry .ensures)) ∙ pb .ensures .1
+    (by-fault (a .depth) (a .by .rules) (now (a .image)) (a .d) (a .by .class) (a .by .sub) r (a .tested + (a .left - r)) (omega arith) (omega arith) (w .0 .0) (sym (w .1) ∙ c .before .before .before .probe-entry .ensures)) ∙ pb .ensures .1
 
 pub +walk-directory+walk-entry-spec : {M : Type 1} → statement M
 +walk-directory+walk-entry-spec =

@@ -3,7 +3,7 @@ use native.Mathlib.Omega.{arith}
 use denote.Ref.{now}
 use Rattle.directory.specs.Directory.{toldDirectory}
 use Rattle.flash.specs.Flash.{levelTwoAt}
-use Rattle.flash.proofs.Ways.{sized-passed}
+use Rattle.efs.proofs.Length.{sized-passed}
 use Rattle.walk.specs.Probe.{entered}
 use borrow.Author.Needs.{needs}
 use Rattle.walk.proofs.enter.Statement.{statement}
@@ -27,7 +27,7 @@ enum-known-why c = search needs
 -- src/lib.rt:51:1
 -- in an image of a length that is allowed
 checked : (c : tie.After-level-two-at) → let a = c .before .before .args in
-    toldDirectory (c .level-two-at .result) ≡ levelTwoAt (a .by .kind) (a .by .limit) (a .by .window) (now (a .image)) (a .d .place .0) (a .e)
+    toldDirectory (c .level-two-at .result) ≡ levelTwoAt (a .by .rules) (now (a .image)) (a .d .place .0) (a .e)
 checked c = let a = c .before .before .args in c .level-two-at .ensures ∙ sized-passed (now (a .image)) _ (record { from = omega arith; to = omega arith })
 
 returns : tie.Need-returns

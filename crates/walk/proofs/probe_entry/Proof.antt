@@ -32,14 +32,14 @@ returns c =
     let l = c .before .before .before .before in
     let a = l .before .before .args in
     c .tested-entry .ensures
-    ∙ ap (probedBy (probed (a .depth) (a .by .kind) (a .by .limit) (a .by .window) (now (a .image)) (a .d) (a .by .class) (a .by .sub))) (ap toldEntry (sym (c .before .before .e .given .1)) ∙ l .entry-in .ensures)
+    ∙ ap (probedBy (probed (a .depth) (a .by) (now (a .image)) (a .d))) (ap toldEntry (sym (c .before .before .e .given .1)) ∙ l .entry-in .ensures)
 
 -- src/lib.rt:80:1
 returns-2 : tie.Need-returns-2
 returns-2 c =
     let l = c .before .before .before in
     let a = l .before .before .args in
-    ap (probedBy (probed (a .depth) (a .by .kind) (a .by .limit) (a .by .window) (now (a .image)) (a .d) (a .by .class) (a .by .sub))) (ap toldEntry (sym (c .before .why .given .1)) ∙ l .entry-in .ensures)
+    ap (probedBy (probed (a .depth) (a .by) (now (a .image)) (a .d))) (ap toldEntry (sym (c .before .why .given .1)) ∙ l .entry-in .ensures)
 
 pub probe-entry-spec : {M : Type 1} → statement M
 probe-entry-spec =

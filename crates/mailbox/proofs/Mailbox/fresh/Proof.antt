@@ -1,5 +1,5 @@
 -- `mailbox::Mailbox::fresh` meets its contract. Assumes nothing.
-use Rattle.mailbox.proofs.CallLaws.{fresh-is}
+use Rattle.mailbox.proofs.LineLaws.{fresh-is}
 use borrow.Author.Needs.{needs}
 use Rattle.mailbox.proofs.Mailbox.fresh.Statement.{statement}
 use Rattle.mailbox.proofs.Mailbox.fresh.Tie as tie

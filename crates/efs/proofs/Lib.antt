@@ -1,0 +1,3 @@
+pub mod Length
+pub mod Accept
+pub mod Told

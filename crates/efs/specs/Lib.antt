@@ -1,0 +1,4 @@
+pub mod Rules
+pub mod Fields
+pub mod Efs
+pub mod Good

@@ -1,0 +1,67 @@
+use mathlib.Core.Path.{sym, ap, _∙_}
+use Rattle.lent.proofs.Laws.{given-number, given-words, alone-number, alone-words}
+use Rattle.directory.specs.Directory.{toldDirectory}
+use Rattle.flash_words.specs.Images.{layDirectory}
+use borrow.Author.Needs.{needs}
+use Rattle.flash_words.proofs.directory.Statement.{statement}
+use Rattle.flash_words.proofs.directory.Tie as tie
+
+directory-requires : tie.Need-directory-requires
+directory-requires c κs = search needs
+
+enum-known-d : tie.Need-enum-known-d
+enum-known-d c = search needs
+
+cast-t10 : tie.Need-cast-t10
+cast-t10 c = search needs
+
+cast-t11 : tie.Need-cast-t11
+cast-t11 c = search needs
+
+cast-t12 : tie.Need-cast-t12
+cast-t12 c = search needs
+
+slice-aggregate-put : tie.Need-slice-aggregate-put
+slice-aggregate-put c = search needs
+
+put-requires : tie.Need-put-requires
+put-requires c κs = search needs
+
+enum-known-why : tie.Need-enum-known-why
+enum-known-why c = search needs
+
+cast-result : tie.Need-cast-result
+cast-result c = search needs
+
+same-length : tie.Need-same-length
+same-length c = search needs
+
+returns : tie.Need-returns
+returns c =
+    let g = c .before .before .before .before .before .before .before .before .before .before .d .given in
+    let is = sym (c .before .before .before .before .before .before .before .before .before .before .before .before .directory .ensures) ∙ ap toldDirectory (g .1) in
+    let p = c .before .before .put in
+    (given-number layDirectory _ _ (g .0 .0) _ is (p .ensures .0), given-words layDirectory _ _ (g .0 .0) _ is (p .ensures .1))
+
+returns-2 : tie.Need-returns-2
+returns-2 c =
+    let g = c .before .before .why .given in
+    let is = sym (c .before .before .before .before .directory .ensures) ∙ ap toldDirectory (g .1) in
+    (alone-number layDirectory _ _ (g .0 .0 .number) is, alone-words layDirectory _ _ (g .0 .0 .number) is)
+
+pub directory-spec : {M : Type 1} → statement M
+directory-spec =
+    tie.close
+    (tie.spec
+    directory-requires
+    enum-known-d
+    cast-t10
+    cast-t11
+    cast-t12
+    slice-aggregate-put
+    put-requires
+    enum-known-why
+    cast-result
+    same-length
+    returns
+    returns-2)

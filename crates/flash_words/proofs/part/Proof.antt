@@ -1,0 +1,55 @@
+use mathlib.Core.Path.{sym, ap, _∙_}
+use Rattle.lent.proofs.Laws.{given-number, given-words, alone-number, alone-words}
+use Rattle.entries.specs.Part.{toldPart}
+use Rattle.flash_words.specs.Images.{layPart}
+use borrow.Author.Needs.{needs}
+use Rattle.flash_words.proofs.part.Statement.{statement}
+use Rattle.flash_words.proofs.part.Tie as tie
+
+part-requires : tie.Need-part-requires
+part-requires c κs = search needs
+
+enum-known-p : tie.Need-enum-known-p
+enum-known-p c = search needs
+
+slice-aggregate-put : tie.Need-slice-aggregate-put
+slice-aggregate-put c = search needs
+
+put-requires : tie.Need-put-requires
+put-requires c κs = search needs
+
+enum-known-why : tie.Need-enum-known-why
+enum-known-why c = search needs
+
+cast-result : tie.Need-cast-result
+cast-result c = search needs
+
+same-length : tie.Need-same-length
+same-length c = search needs
+
+returns : tie.Need-returns
+returns c =
+    let g = c .before .before .before .before .before .before .p .given in
+    let is = sym (c .before .before .before .before .before .before .before .before .part .ensures) ∙ ap toldPart (g .1) in
+    let p = c .before .before .put in
+    (given-number layPart _ _ (g .0 .0) _ is (p .ensures .0), given-words layPart _ _ (g .0 .0) _ is (p .ensures .1))
+
+returns-2 : tie.Need-returns-2
+returns-2 c =
+    let g = c .before .before .why .given in
+    let is = sym (c .before .before .before .before .part .ensures) ∙ ap toldPart (g .1) in
+    (alone-number layPart _ _ (g .0 .0 .number) is, alone-words layPart _ _ (g .0 .0 .number) is)
+
+pub part-spec : {M : Type 1} → statement M
+part-spec =
+    tie.close
+    (tie.spec
+    part-requires
+    enum-known-p
+    slice-aggregate-put
+    put-requires
+    enum-known-why
+    cast-result
+    same-length
+    returns
+    returns-2)

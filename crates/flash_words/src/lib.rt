@@ -1,0 +1,186 @@
+// What the calls on a flash image give, in lent words: the EFS, the directory pointer, the directory of a level, its entries, where their
+// bytes lie, and the lookups; the version in a firmware binary's header and the checksum of lent bytes too.
+ghost use mathlib.Core.Path.{_≡_};
+ghost use Rattle.reply.specs.Reply.{given};
+ghost use Rattle.fletcher.specs.Fletcher.{fletcherOf};
+ghost use Rattle.lent.specs.Lent.{numberLeft, wordsLeft, layNumber};
+ghost use Rattle.efs.specs.Rules.{baseRules};
+ghost use Rattle.efs.specs.Efs.{flashEfs, flashPointer};
+ghost use Rattle.flash.specs.Flash.{flashDirectory, flashEntry, flashPart, flashFind};
+ghost use Rattle.walk.specs.Walk.{findImage};
+ghost use Rattle.repeats.specs.Repeats.{flashRepeats};
+ghost use Rattle.version.specs.Version.{versionOf};
+ghost use Rattle.flash_words.specs.Images.{layEfs, layPointer, layDirectory, layRepeat, layEntry, layPart, layMatch, layImageMatch};
+use directory::DirectoryAnswer;
+use directory::RepeatAnswer;
+use efs::EfsAnswer;
+use efs::PointerAnswer;
+use entries::EntryAnswer;
+use entries::MatchAnswer;
+use entries::PartAnswer;
+use version::VersionAnswer;
+use walk::ImageMatchAnswer;
+
+// Three words: the EFS's place, and its pointers at 0x10 and at 0x14 as they stand.
+pub fn efs(image: &[u8], words: &mut [u64]) -> u64
+    ensures { λ r. ⌜ r ≡ numberLeft layEfs (flashEfs baseRules (now (image .entry))) (now (words .entry)) ⌝ }
+    ensures { λ _. ⌜ now (words .exit) ≡ wordsLeft layEfs (flashEfs baseRules (now (image .entry))) (now (words .entry)) ⌝ }
+{
+    match efs::flash_efs(image) {
+        EfsAnswer::Given(e) => {
+            let place = e.place;
+            let values = [place.0 as u64, e.early as u64, e.late as u64];
+            lent::put(words, 0, &values)
+        }
+        EfsAnswer::Refused(why) => why.number as u64,
+    }
+}
+
+// Three words: the field of the EFS that holds the directory pointer, its value, and the place where it leads.
+pub fn pointer(image: &[u8], words: &mut [u64]) -> u64
+    ensures { λ r. ⌜ r ≡ numberLeft layPointer (flashPointer baseRules (now (image .entry))) (now (words .entry)) ⌝ }
+    ensures { λ _. ⌜ now (words .exit) ≡ wordsLeft layPointer (flashPointer baseRules (now (image .entry))) (now (words .entry)) ⌝ }
+{
+    match efs::flash_pointer(image) {
+        PointerAnswer::Given(p) => {
+            let place = p.place;
+            let values = [p.field as u64, p.value as u64, place.0 as u64];
+            lent::put(words, 0, &values)
+        }
+        PointerAnswer::Refused(why) => why.number as u64,
+    }
+}
+
+// Three words: the directory's place, level and total.
+pub fn directory(image: &[u8], level: u32, words: &mut [u64]) -> u64
+    ensures { λ r. ⌜ r ≡ numberLeft layDirectory (flashDirectory baseRules level (now (image .entry))) (now (words .entry)) ⌝ }
+    ensures { λ _. ⌜ now (words .exit) ≡ wordsLeft layDirectory (flashDirectory baseRules level (now (image .entry))) (now (words .entry)) ⌝ }
+{
+    match flash::directory(image, level) {
+        DirectoryAnswer::Given(d) => {
+            let place = d.place;
+            let values = [place.0 as u64, d.level as u64, d.total as u64];
+            lent::put(words, 0, &values)
+        }
+        DirectoryAnswer::Refused(why) => why.number as u64,
+    }
+}
+
+// Four words: of a directory that is refused since an entry repeats, that entry, the earlier one, and the type and subprogram of both.
+pub fn repeated(image: &[u8], level: u32, words: &mut [u64]) -> u64
+    ensures { λ r. ⌜ r ≡ numberLeft layRepeat (flashRepeats baseRules level (now (image .entry))) (now (words .entry)) ⌝ }
+    ensures { λ _. ⌜ now (words .exit) ≡ wordsLeft layRepeat (flashRepeats baseRules level (now (image .entry))) (now (words .entry)) ⌝ }
+{
+    match repeats::repeated(image, level) {
+        RepeatAnswer::Given(r) => {
+            let values = [
+                r.entry as u64,
+                r.earlier as u64,
+                r.class as u64,
+                r.subprogram as u64,
+            ];
+            lent::put(words, 0, &values)
+        }
+        RepeatAnswer::Refused(why) => why.number as u64,
+    }
+}
+
+// Five words: the entry's type, subprogram, size, location and mode.
+pub fn entry(image: &[u8], level: u32, index: u64, words: &mut [u64]) -> u64
+    ensures { λ r. ⌜ r ≡ numberLeft layEntry (flashEntry baseRules level (now (image .entry)) index) (now (words .entry)) ⌝ }
+    ensures { λ _. ⌜ now (words .exit) ≡ wordsLeft layEntry (flashEntry baseRules level (now (image .entry)) index) (now (words .entry)) ⌝ }
+{
+    match flash::entry(image, level, index as usize) {
+        EntryAnswer::Given(e) => {
+            let values = [
+                e.class as u64,
+                e.subprogram as u64,
+                e.size as u64,
+                e.location,
+                e.mode as u64,
+            ];
+            lent::put(words, 0, &values)
+        }
+        EntryAnswer::Refused(why) => why.number as u64,
+    }
+}
+
+// Two words: where the entry's bytes begin in the image, and how many they are.
+pub fn part(image: &[u8], level: u32, index: u64, words: &mut [u64]) -> u64
+    ensures { λ r. ⌜ r ≡ numberLeft layPart (flashPart baseRules level (now (image .entry)) index) (now (words .entry)) ⌝ }
+    ensures { λ _. ⌜ now (words .exit) ≡ wordsLeft layPart (flashPart baseRules level (now (image .entry)) index) (now (words .entry)) ⌝ }
+{
+    match flash::part(image, level, index as usize) {
+        PartAnswer::Given(p) => {
+            let values = [p.place as u64, p.length as u64];
+            lent::put(words, 0, &values)
+        }
+        PartAnswer::Refused(why) => why.number as u64,
+    }
+}
+
+// Two words: the match's index, and how many entries were tested; with an 8 one word, how many were tested.
+pub fn find(image: &[u8], level: u32, class: u8, sub: u8, words: &mut [u64]) -> u64
+    ensures { λ r. ⌜ r ≡ numberLeft layMatch (flashFind baseRules level (now (image .entry)) class sub) (now (words .entry)) ⌝ }
+    ensures { λ _. ⌜ now (words .exit) ≡ wordsLeft layMatch (flashFind baseRules level (now (image .entry)) class sub) (now (words .entry)) ⌝ }
+{
+    match flash::find(image, level, class, sub) {
+        MatchAnswer::Given(m) => {
+            let values = [m.index as u64, m.tested as u64];
+            lent::put(words, 0, &values)
+        }
+        MatchAnswer::Absent(n) => {
+            let values = [n as u64];
+            lent::put(words, 8, &values)
+        }
+        MatchAnswer::Refused(why) => why.number as u64,
+    }
+}
+
+// Four words: the place and level of the match's directory, its index, and how many entries were tested; with an 8 one word, how many were tested.
+pub fn find_image(image: &[u8], class: u8, sub: u8, words: &mut [u64]) -> u64
+    ensures { λ r. ⌜ r ≡ numberLeft layImageMatch (findImage baseRules (now (image .entry)) class sub) (now (words .entry)) ⌝ }
+    ensures { λ _. ⌜ now (words .exit) ≡ wordsLeft layImageMatch (findImage baseRules (now (image .entry)) class sub) (now (words .entry)) ⌝ }
+{
+    match walk::find_image(image, class, sub) {
+        ImageMatchAnswer::Given(f) => {
+            let place = f.place;
+            let values = [
+                place.0 as u64,
+                f.level as u64,
+                f.index as u64,
+                f.tested as u64,
+            ];
+            lent::put(words, 0, &values)
+        }
+        ImageMatchAnswer::Absent(n) => {
+            let values = [n as u64];
+            lent::put(words, 8, &values)
+        }
+        ImageMatchAnswer::Refused(why) => why.number as u64,
+    }
+}
+
+// One word: the version.
+pub fn version(bytes: &[u8], words: &mut [u64]) -> u64
+    ensures { λ r. ⌜ r ≡ numberLeft layNumber (versionOf (now (bytes .entry))) (now (words .entry)) ⌝ }
+    ensures { λ _. ⌜ now (words .exit) ≡ wordsLeft layNumber (versionOf (now (bytes .entry))) (now (words .entry)) ⌝ }
+{
+    match version::version(bytes) {
+        VersionAnswer::Given(version) => {
+            let version_word = [version as u64];
+            lent::put(words, 0, &version_word)
+        }
+        VersionAnswer::Refused(why) => why.number as u64,
+    }
+}
+
+// One word: the checksum of the bytes.
+pub fn checksum(bytes: &[u8], words: &mut [u64]) -> u64
+    ensures { λ r. ⌜ r ≡ numberLeft layNumber (given (fletcherOf (now (bytes .entry)))) (now (words .entry)) ⌝ }
+    ensures { λ _. ⌜ now (words .exit) ≡ wordsLeft layNumber (given (fletcherOf (now (bytes .entry)))) (now (words .entry)) ⌝ }
+{
+    let sum = fletcher::fletcher(bytes);
+    let sum_word = [sum as u64];
+    lent::put(words, 0, &sum_word)
+}

@@ -1,4 +1,0 @@
-pub mod Images
-pub mod Tables
-pub mod Mailboxes
-pub mod Orders

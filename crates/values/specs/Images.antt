@@ -1,0 +1,166 @@
+-- Flash images and directories at which two neighbouring checks fail, or one alone, with the number that is due: the rows of what is stated in Orders.antt. Assumes nothing: these are definitions.
+use Prim.Native.Nat.{ℕ, _+_, _-_, _^_}
+use mathlib.Core.List.{List, [], _∷_, _++_}
+use lib.ListN.{replicate, take}
+use Rattle.le.specs.Le.{leBytes}
+use Rattle.fletcher.specs.Fletcher.{fletcherOf}
+use Rattle.window.specs.Window.{baseWindow}
+use Rattle.directory.specs.Directory.{pspKind}
+use Rattle.efs.specs.declared.Rules.{Rules}
+use Rattle.build.specs.declared.Fields.{Fields}
+use Rattle.build.specs.Write.{entryBytes}
+
+-- an input, and the number that a call on it answers: 0 where it is accepted
+pub record Row (A : Type 0) : Type 0 where
+  pub input : A
+  pub number : ℕ
+
+abbrev pub row : {A : Type 0} → A → ℕ → Row A
+row input number = record { input = input; number = number }
+
+abbrev pub zeros : ℕ → List ℕ
+zeros n = replicate n 0
+
+-- ---- a directory: cookie, checksum (with so much added), total, reserved field, entries
+abbrev pub one : ℕ
+one = 0x5053_5024
+
+abbrev pub two : ℕ
+two = 0x324C_5024
+
+abbrev pub directoryWith : (cookie wrong total reserved : ℕ) → List ℕ → List ℕ
+directoryWith cookie wrong total reserved entries =
+    let body = leBytes 4 total ++ (leBytes 4 reserved ++ entries) in
+    leBytes 4 cookie ++ (leBytes 4 (fletcherOf body + wrong) ++ body)
+
+-- an entry of a type, with reserved bits
+abbrev pub entryWith : (class reserved : ℕ) → List ℕ
+entryWith class reserved = class ∷ 0 ∷ (leBytes 2 reserved ++ zeros 12)
+
+-- the checks of a directory of level two
+abbrev pub directoryRows : List (Row (List ℕ))
+directoryRows =
+    row (directoryWith two 0 1 0 (entryWith 1 0)) 0
+    ∷ row (zeros 15) 1  -- 1 before 2
+    ∷ row (directoryWith one 0 513 0 []) 2  -- 2 before 3
+    ∷ row (directoryWith two 0 513 0 []) 3  -- 3 before 1
+    ∷ row (directoryWith two 1 1 0 []) 1  -- 1 before 4
+    ∷ row (take 31 (directoryWith two 0 1 0 (entryWith 1 0))) 1
+    ∷ row (directoryWith two 1 0 1 []) 4  -- 4 before 5
+    ∷ row (directoryWith two 1 0 0 []) 4
+    ∷ row (directoryWith two 0 1 1 (entryWith 0x40 0)) 5  -- the header's 5 before 14
+    ∷ row (directoryWith two 0 1 0 (entryWith 0x40 1)) 5  -- 5 before 14
+    ∷ row (directoryWith two 0 1 0 (entryWith 1 1)) 5
+    ∷ row (directoryWith two 0 1 0 (entryWith 0x40 0)) 14
+    ∷ row (directoryWith two 0 2 0 (entryWith 0x40 0 ++ entryWith 1 1)) 14  -- entry by entry
+    ∷ row (directoryWith two 0 2 0 (entryWith 1 0 ++ entryWith 1 1)) 5  -- 5 before 18
+    ∷ row (directoryWith two 0 2 0 (entryWith 0x40 0 ++ entryWith 0x40 0)) 14  -- 14 before 18
+    ∷ row (directoryWith two 0 2 0 (entryWith 1 0 ++ entryWith 1 0)) 18
+    ∷ row (directoryWith two 0 3 0 (entryWith 1 0 ++ (entryWith 1 0 ++ entryWith 2 1))) 18  -- entry by entry
+    ∷ row (directoryWith two 0 2 0 (entryWith 1 0 ++ entryWith 2 0)) 0
+    ∷ []
+
+-- the same where the largest total is 1 and not 512
+abbrev pub limitRows : List (Row (List ℕ))
+limitRows =
+    row (directoryWith two 0 1 0 (entryWith 1 0)) 0
+    ∷ row (directoryWith two 0 2 0 (entryWith 1 0 ++ entryWith 1 0)) 3
+    ∷ []
+
+-- ---- a flash image: an EFS with its two pointers, and what follows its 0x24 bytes
+abbrev pub efs : (early late : ℕ) → List ℕ
+efs early late = 0xAA ∷ 0x55 ∷ 0xAA ∷ 0x55 ∷ (zeros 12 ++ (leBytes 4 early ++ (leBytes 4 late ++ zeros 12)))
+
+-- document 01's rules but for the candidates: the image's first byte alone, so that images can be small
+abbrev pub atTheStart : Rules
+atTheStart = record { kind = pspKind; limit = 512; window = baseWindow; candidates = 0xFF00_0000 ∷ [] }
+
+abbrev pub fields : (class mode location size : ℕ) → Fields
+fields class mode location size = record { class = class; subprogram = 0; size = size; location = location; mode = mode }
+
+-- level one, at 36, with one entry of type 0x40: 68 bytes in all
+abbrev pub leading : (mode location : ℕ) → List ℕ
+leading mode location = efs 0 36 ++ directoryWith one 0 1 0 (entryBytes (fields 0x40 mode location 0))
+
+-- a level, and an image
+abbrev pub flashRows : List (Row (ℕ × List ℕ))
+flashRows =
+    row (0, []) 9  -- 9 before 15
+    ∷ row (3, []) 9
+    ∷ row (1, []) 15  -- 15 before 2
+    ∷ row (1, zeros 36) 2  -- 2 before 8
+    ∷ row (1, take 35 (efs 0 36)) 2  -- and before 7
+    ∷ row (1, efs 0xFFFF_FFFF 0) 8
+    ∷ row (1, efs 36 0x0100_0000) 7  -- the pointer at 0x14 decides, though it is bad
+    ∷ row (1, efs 36 0xFEFF_FFFF) 7
+    ∷ row (1, efs 0 37) 7  -- 7 before 1
+    ∷ row (1, efs 0 36) 1
+    ∷ row (1, efs 36 0xFFFF_FFFF) 1
+    ∷ row (1, efs 0 0xFF00_0000) 2  -- the EFS is no directory
+    ∷ row (1, efs 0 36 ++ directoryWith one 0 0 0 []) 0
+    ∷ row (2, efs 0 36 ++ directoryWith one 1 0 0 []) 4  -- level one's numbers before 8
+    ∷ row (2, efs 0 36 ++ directoryWith one 0 0 0 []) 8
+    ∷ row (2, leading 3 69) 16  -- 16 before 7
+    ∷ row (2, leading 1 69) 7  -- 7 before 1
+    ∷ row (2, leading 1 68) 1
+    ∷ row (2, leading 2 0) 2  -- it leads to level one
+    ∷ row (2, leading 2 32 ++ directoryWith two 0 0 0 []) 0
+    ∷ []
+
+-- ---- where the bytes of an entry lie: an index, and an entry that stands twice in 48 bytes, as the only one of a directory and behind it
+abbrev pub partRows : List (Row (ℕ × Fields))
+partRows =
+    row (1, fields 0x0B 3 49 0) 8  -- 8 before 17
+    ∷ row (0, fields 0x0B 3 49 0) 17  -- 17 before 16
+    ∷ row (0, fields 1 3 49 0) 16  -- 16 before 7
+    ∷ row (0, fields 1 1 49 0) 7
+    ∷ row (0, fields 1 1 48 0) 0
+    ∷ row (0, fields 1 1 47 1) 0
+    ∷ row (0, fields 1 1 47 2) 7
+    ∷ row (0, fields 1 0 0xFEFF_FFFF 0) 7
+    ∷ row (0, fields 1 0 0xFF00_0030 0) 0
+    ∷ row (0, fields 1 0 0x1_0000_0000 0) 7
+    ∷ row (0, fields 1 2 49 0) 7
+    ∷ []
+
+-- ---- a view's image and place
+abbrev pub placeRows : List (Row (List ℕ × ℕ))
+placeRows =
+    row ([], 1) 15  -- 15 before 7
+    ∷ row (zeros 16, 17) 7  -- 7 before 1
+    ∷ row (zeros 16, 16) 1  -- 1 before 2
+    ∷ row (zeros 16, 0) 2
+    ∷ row (directoryWith two 0 0 0 [], 0) 0
+    ∷ []
+
+-- ---- writing: a level and a buffer
+abbrev pub startRows : List (Row (ℕ × List ℕ))
+startRows =
+    row (0, []) 9  -- 9 before 12
+    ∷ row (3, []) 9
+    ∷ row (1, zeros 15) 12
+    ∷ row (2, zeros 16) 0
+    ∷ []
+
+-- an entry and a buffer
+abbrev pub extendRows : List (Row (Fields × List ℕ))
+extendRows =
+    row (fields 1 0 (2 ^ 62) 0, directoryWith two 0 1 0 (entryWith 0x40 0)) 14  -- the directory's numbers before 5
+    ∷ row (fields 0x40 0 (2 ^ 62) 0, directoryWith two 0 0 0 []) 5  -- 5 before 14
+    ∷ row (fields 0x40 4 0 0, directoryWith two 0 0 0 []) 5
+    ∷ row (fields 0x40 3 0 0, directoryWith two 0 0 0 []) 14  -- 14 before 12
+    ∷ row (fields 0x40 3 0 0, directoryWith one 0 0 0 []) 12
+    ∷ row (fields 1 3 (2 ^ 62 - 1) 0, directoryWith two 0 0 0 (zeros 15)) 12
+    ∷ row (fields 1 3 (2 ^ 62 - 1) 0, directoryWith two 0 0 0 [] ++ zeros 16) 0
+    ∷ []
+
+-- an entry for a level two, the length of a buffer of zeros, and the total
+abbrev pub roomRows : List (Row (Fields × ℕ × ℕ))
+roomRows =
+    row (fields 0x40 0 0 0, 0, 512) 14  -- 14 before 3
+    ∷ row (fields 0 0 0 0, 0, 512) 18  -- 18 before 3
+    ∷ row (fields 1 0 0 0, 0, 512) 3  -- 3 before 12
+    ∷ row (fields 1 0 0 0, 0, 511) 12
+    ∷ row (fields 1 0 0 0, 47, 1) 12
+    ∷ row (fields 1 0 0 0, 48, 1) 0
+    ∷ []

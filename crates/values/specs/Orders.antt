@@ -1,0 +1,44 @@
+-- Each order of checks gives the number of the first that fails, stated for rows of inputs: no two neighbours have exchanged places or numbers. The proof stands in proofs/Orders.antt.
+use Prim.Native.Nat.{ℕ}
+use mathlib.Core.Path.{_≡_}
+use mathlib.Core.List.{List, map, _++_}
+use lib.ListN.{replicate}
+use Rattle.lent.specs.Lent.{numberOf}
+use Rattle.window.specs.Window.{baseWindow}
+use Rattle.directory.specs.Directory.{pspKind, directoryOf, directoryAt}
+use Rattle.entries.specs.Part.{partIn}
+use Rattle.flash.specs.Flash.{flashDirectory}
+use Rattle.place.specs.Place.{checkAt}
+use Rattle.build.specs.Write.{entryBytes, startOf, extendOf, roomFor}
+use Rattle.aspt.specs.Calls.{readOf}
+use Rattle.aspt_build.specs.Write.{writeOf}
+use Rattle.guids.specs.Table.{tableOf}
+use Rattle.guids_build.specs.Write.{startOf as guidStartOf, roomFor as guidRoomFor}
+use Rattle.firmware.specs.Word.{statusIn}
+use Rattle.firmware.specs.Rules.{runOf}
+use Rattle.mailbox_calls.specs.Calls.{postOf, takeOf}
+use Rattle.values.specs.Images.{Row, zeros, atTheStart, directoryRows, limitRows, flashRows, partRows, placeRows, startRows, extendRows, roomRows}
+use Rattle.values.specs.Tables.{readRows, writeRows, guidRows, guidStartRows, guidRoomRows}
+use Rattle.values.specs.Mailboxes.{postRows, takeRows, statusRows}
+
+-- every row has the number that is answered
+abbrev pub Right : {A : Type 0} → (A → ℕ) → List (Row A) → Type 0
+Right answered rows = map (λ r. answered (r .input)) rows ≡ map (λ r. r .number) rows
+
+pub record Orders : Type 0 where
+  pub directory : Right (λ s. numberOf (directoryAt pspKind 512 2 s 0)) directoryRows
+  pub limit : Right (λ s. numberOf (directoryAt pspKind 1 2 s 0)) limitRows
+  pub flash : Right (λ a. numberOf (flashDirectory atTheStart (a .0) (a .1))) flashRows
+  pub part : Right (λ a. numberOf (partIn pspKind baseWindow (zeros 16 ++ (entryBytes (a .1) ++ entryBytes (a .1))) (directoryOf 0 1 1) (a .0))) partRows
+  pub place : Right (λ a. numberOf (checkAt atTheStart (a .0) (a .1))) placeRows
+  pub start : Right (λ a. numberOf (startOf (a .0) (a .1))) startRows
+  pub extend : Right (λ a. numberOf (extendOf (a .0) (a .1))) extendRows
+  pub room : Right (λ a. numberOf (roomFor (a .0) (zeros (a .1)) (directoryOf 0 2 (a .2)))) roomRows
+  pub aspt-read : Right (λ s. numberOf (readOf s)) readRows
+  pub aspt-write : Right (λ a. numberOf (writeOf (a .0) (replicate (a .1) 0))) writeRows
+  pub guids : Right (λ s. numberOf (tableOf s)) guidRows
+  pub guid-start : Right (λ s. numberOf (guidStartOf s)) guidStartRows
+  pub guid-room : Right (λ a. numberOf (guidRoomFor (a .0) (a .1) (a .2))) guidRoomRows
+  pub post : Right (λ a. numberOf (postOf (a .0) (a .1) (a .2) 0 .answer)) postRows
+  pub take-word : Right (λ a. numberOf (takeOf (a .0) (a .1) .answer)) takeRows
+  pub status : Right (λ a. statusIn (runOf (a .0) (a .1) .word)) statusRows
