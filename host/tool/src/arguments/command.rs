@@ -24,5 +24,13 @@ pub type Status = (u8, &'static str);
 /// The status that every command has for words that it cannot read.
 pub const WRONG_WORDS: Status = (2, "the command line is wrong");
 
+/// The statuses of a command that shows the table of one file.
+pub static OF_A_TABLE: &[Status] = &[
+    (0, "the table is accepted"),
+    (1, "it is refused"),
+    WRONG_WORDS,
+    (3, "FILE cannot be read or the output cannot be written"),
+];
+
 /// What the words ask for, ready to be run.
 pub type Job = Box<dyn FnOnce() -> Ending>;

@@ -1,12 +1,10 @@
 //! `kpalumere aspt`: the AMD Secure Processor Table, laid out with the names of source 000.
 
-use crate::arguments::command::{Command, Job, WRONG_WORDS};
-use crate::arguments::words::{Words, JSON};
-use crate::shown::answer::show;
+use crate::arguments::command::{Command, Job, OF_A_TABLE};
+use crate::shown::answer::table_shown;
 use crate::shown::digits::hexadecimal;
 use crate::shown::json::{Fields, Json};
 use crate::shown::refusals;
-use crate::system::ending::Ending;
 use bindings::{aspt_read, Answer, AsptStructure, AsptTable};
 use std::ffi::OsString;
 
@@ -15,12 +13,7 @@ pub static COMMAND: Command = Command {
     words: "FILE [--json]",
     does: "the ACPI table ASPT, laid out with its names",
     help: || HELP.to_string(),
-    statuses: &[
-        (0, "the table is accepted"),
-        (1, "it is refused"),
-        WRONG_WORDS,
-        (3, "FILE cannot be read or the output cannot be written"),
-    ],
+    statuses: OF_A_TABLE,
     read,
 };
 
@@ -71,12 +64,7 @@ static STRUCTURES: [Names; 3] = [
 const SEV_MAILBOX: u16 = 1;
 
 fn read(words: &[OsString]) -> Result<Job, String> {
-    let words = Words::part(COMMAND.name, &[JSON], words)?;
-    words.expect(&["FILE"])?;
-    Ok(Box::new(move || {
-        let text = |_: &[u8], answer: &_| text(answer);
-        show(&words, aspt_read, text, fields, |_| Ending::Done)
-    }))
+    table_shown(COMMAND.name, words, aspt_read, text, fields)
 }
 
 fn text(answer: &Answer<AsptTable>) -> String {

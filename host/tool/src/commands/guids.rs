@@ -1,12 +1,10 @@
 //! `kpalumere guids`: the GUID table at the end of a guest firmware image, with the names of the GUIDs that are known.
 
-use crate::arguments::command::{Command, Job, WRONG_WORDS};
-use crate::arguments::words::{Words, JSON};
-use crate::shown::answer::show;
+use crate::arguments::command::{Command, Job, OF_A_TABLE};
+use crate::shown::answer::table_shown;
 use crate::shown::forms;
 use crate::shown::json::{Fields, Json};
 use crate::shown::refusals;
-use crate::system::ending::Ending;
 use bindings::{guid_entry, Answer, Guid, GuidEntry, GuidTable};
 use std::ffi::OsString;
 
@@ -15,12 +13,7 @@ pub static COMMAND: Command = Command {
     words: "FILE [--json]",
     does: "the GUID table of a guest firmware image, entry by entry",
     help: || HELP.to_string(),
-    statuses: &[
-        (0, "the table is accepted"),
-        (1, "it is refused"),
-        WRONG_WORDS,
-        (3, "FILE cannot be read or the output cannot be written"),
-    ],
+    statuses: OF_A_TABLE,
     read,
 };
 
@@ -75,12 +68,7 @@ struct Table {
 }
 
 fn read(words: &[OsString]) -> Result<Job, String> {
-    let words = Words::part(COMMAND.name, &[JSON], words)?;
-    words.expect(&["FILE"])?;
-    Ok(Box::new(move || {
-        let text = |_: &[u8], answer: &_| text(answer);
-        show(&words, table_of, text, fields, |_| Ending::Done)
-    }))
+    table_shown(COMMAND.name, words, table_of, text, fields)
 }
 
 /// The table, by what the library answers.

@@ -1,5 +1,6 @@
 //! How a command that asks about one file shows the answer: in words for people, or with --json for programs.
 
+use crate::arguments::command::Job;
 use crate::arguments::words::{Words, JSON};
 use crate::shown::first_fields::first_fields;
 use crate::shown::json::{Fields, Json};
@@ -7,6 +8,24 @@ use crate::system::ending::Ending;
 use crate::system::files;
 use crate::system::output::print;
 use bindings::Answer;
+use std::ffi::OsString;
+
+/// The job of a command that shows the table of one file, whose words are `FILE [--json]`. A table that is given ends it
+/// well.
+pub fn table_shown<T: 'static>(
+    command: &'static str,
+    words: &[OsString],
+    ask: fn(&[u8]) -> Answer<T>,
+    for_people: fn(&Answer<T>) -> String,
+    for_programs: fn(&Answer<T>) -> Fields,
+) -> Result<Job, String> {
+    let words = Words::part(command, &[JSON], words)?;
+    words.expect(&["FILE"])?;
+    Ok(Box::new(move || {
+        let for_people = |_: &[u8], answer: &_| for_people(answer);
+        show(&words, ask, for_people, for_programs, |_| Ending::Done)
+    }))
+}
 
 /// Asks about the bytes of the file that the first word names, and shows the answer. What is given decides how the run
 /// ends; what is refused ends it with that.
