@@ -1,5 +1,5 @@
 -- Demand 3, proved: after any finite list of calls from the fresh mailbox, and before firmware in any state at all. Assumes nothing.
-use mathlib.Core.Bool.{Bool, true, false, cond}
+use mathlib.Core.Bool.{Bool, true, false, cond, true≢false}
 use mathlib.Core.List.{List, [], _∷_, _++_, append-assoc}
 use mathlib.Core.Path.{_≡_, refl, sym, ap, _∙_, subst}
 use Prim.Native.Nat.{ℕ, zero, suc, _+_, _<_, _≤_}
@@ -15,15 +15,15 @@ use Rattle.mailbox.specs.declared.PlaceState.{PlaceState}
 use Rattle.mailbox.specs.declared.PlaceState.the-variants.{Free, Waiting, Ready}
 use Rattle.mailbox.specs.declared.Post.{Post}
 use Rattle.mailbox.specs.declared.Mailbox.{Mailbox}
-use Rattle.mailbox.specs.Machine.{postBy, noPost, waiting, placeWith, stateOf, mailboxBefore}
+use Rattle.mailbox.specs.Machine.{postBy, noPost, waiting, placeWith, stateOf, withOldest, withResponse, mailboxBefore}
 use Rattle.mailbox.specs.Consistent.{postsFit, registerFits, once, timesIn, registerHolds, waits, consistentOf}
 use Rattle.mailbox_calls.specs.Calls.{After}
 use Rattle.mailbox.proofs.ConsistentLaws.{times-append}
 use Rattle.mailbox.proofs.Facts.{consistent-test, room}
-use Rattle.mailbox_demand3.specs.Calls.{Call, post, load, turn, unload, take-word, Seen, posted, loaded, turned, unloaded, took, seenAs, callOf, numberIn}
+use Rattle.mailbox_demand3.specs.Calls.{Sixteen, Call, post, load, turn, unload, take-word, Seen, posted, loaded, turned, unloaded, took, seenAs, callOf, numberIn, actedIn}
 use Rattle.mailbox_demand3.specs.Log.{Log, noLog, noted, Run, from, stepped, played}
 use Rattle.mailbox_demand3.specs.Sequence.{stateAfter, answersTo, wordsOf}
-use Rattle.mailbox_demand3.specs.Demand3.{Begins, untaken, Joins, Loads, Turns, Unloads, Takes, Demand3, DemandThree}
+use Rattle.mailbox_demand3.specs.Demand3.{Begins, untaken, Joins, Loads, Turns, Unloads, Takes, Demand3, DemandThreeFrom, DemandThree}
 use Rattle.mailbox_demand3.proofs.SequenceLaws.{answers-append, words-append, words-count}
 use Rattle.mailbox_demand3.proofs.Outcome.{Outcome, nothing, joins, loads, turns, unloads, takes, outcome, join-is, load-is, turn-is, unload-is, take-is}
 use Rattle.mailbox_demand3.proofs.Kept.{Holds, ready, answered, Kept, at-same, at-other, join-line, join-kept, load-line, load-kept, turn-kept, unload-low, unload-kept, take-kept}
@@ -33,7 +33,7 @@ good : {start : Firmware} (m : Mailbox) (g : Log) → Kept start m g → true �
 good m g k = sym (consistent-test m (k .good))
 
 changed : {start : Firmware} (m : Mailbox) (g : Log) (k : Kept start m g) {s : After Seen} → Outcome m s → Kept start (s .mailbox) (noted g (s .answer))
-changed {start} m g k (nothing s same n) = subst (Kept start m) (sym (same g)) k
+changed {start} m g k (nothing s same n idle) = subst (Kept start m) (sym (same g)) k
 changed m g k (joins c n d h l e) = join-kept m g k c n d h l e (room m c (k .lineLong) (consistent-test m (k .good)) h e)
 changed m g k (loads e n) = load-kept m g k e n
 changed m g k (turns c w e) = turn-kept m g k c w e
@@ -88,6 +88,12 @@ ready-count Free = refl
 ready-count Waiting = refl
 ready-count (Ready w) = refl
 
+-- the phases are told apart by a number
+abbrev phaseNumber : Phase → ℕ
+phaseNumber Idle = 0
+phaseNumber (Command k w) = 1
+phaseNumber (Response k w) = 2
+
 module _ {start : Firmware} (m : Mailbox) (g : Log) (k : Kept start m g) where
   words-begin : (c : ℕ) → Begins (wordsOf c (g .taken)) (wordsOf c (answersTo start (g .line)))
   words-begin c = begins start c (wordsOf c (g .taken)) (ready (stateOf m c) ++ answered c (m .register)) (g .line) (k .ran) (k .inside ++ waiting m) (k .split) (k .words c)
@@ -110,19 +116,36 @@ module _ {start : Firmware} (m : Mailbox) (g : Log) (k : Kept start m g) where
   state-is = k .state ∙ ap (stateAfter start) (sym (ap (take (g .turns)) (k .split) ∙ take-at (k .ran) _ (g .turns) (sym (k .turns))))
 
   fives : {s : After Seen} → Outcome m s → numberIn (s .answer) ≡ 5 → ⊥
-  fives (nothing s same n) e = n e
+  fives (nothing s same n idle) e = n e
   fives (joins c n d h l p) e = omega arith
   fives (loads p n) e = omega arith
   fives (turns c w p) e = omega arith
   fives (unloads c w p) e = omega arith
   fives (takes c w h p) e = omega arith
 
+  -- what acted is told from what did not
+  staying : {s : After Seen} → Outcome m s → actedIn (s .answer) ≡ false → s .mailbox ≡ m
+  staying (nothing s same n idle) e = refl
+  staying (joins c n d h l p) e = absurd (true≢false e)
+  staying (loads p n) e = absurd (true≢false e)
+  staying (turns c w p) e = absurd (true≢false e)
+  staying (unloads c w p) e = absurd (true≢false e)
+  staying (takes c w h p) e = absurd (true≢false e)
+
   long : (c : ℕ) → c ≤ 7 → c < length (m .places)
   long c h = let e = k .placesLong in omega arith
 
+  acting : {s : After Seen} → Outcome m s → actedIn (s .answer) ≡ true → s .mailbox ≡ m → ⊥
+  acting (nothing s same n idle) e q = true≢false (sym e ∙ idle)
+  acting (joins c n d h l p) e q = let more : m .count + 1 ≡ m .count = ap (λ (b : Mailbox). b .count) q in omega arith
+  acting (loads p n) e q = let idle : phaseNumber (withOldest m .register) ≡ phaseNumber Idle = ap (λ (b : Mailbox). phaseNumber (b .register)) q ∙ ap phaseNumber p in omega arith
+  acting (turns c w p) e q = let idle : phaseNumber (withResponse m c w .register) ≡ phaseNumber (Command c w) = ap (λ (b : Mailbox). phaseNumber (b .register)) q ∙ ap phaseNumber p in omega arith
+  acting (unloads c w p) e q = let idle : phaseNumber Idle ≡ phaseNumber (Response c w) = ap (λ (b : Mailbox). phaseNumber (b .register)) q ∙ ap phaseNumber p in omega arith
+  acting (takes c w h p) e q = let none : untaken Free ≡ untaken (Ready w) = ap untaken (sym (at-same (m .places) c Free (long c h)) ∙ (ap (λ (b : Mailbox). stateOf b c) q ∙ p)) in omega arith
+
   -- ---- service
-  joining : (c n d : ℕ) → c ≤ 7 → n ≤ 0x3FF → stateOf m c ≡ Free → Joins m (postBy c n d) (callOf m (post c n d))
-  joining c n d h l e =
+  joining : (c n d : ℕ) (bits : Sixteen d) → c ≤ 7 → n ≤ 0x3FF → stateOf m c ≡ Free → Joins m (postBy c n d) (callOf m (post c n d bits))
+  joining c n d bits h l e =
       subst (Joins m (postBy c n d)) (ap (seenAs (posted c n d)) (join-is m (good m g k) c n d h l e))
       (record {
         answer = refl;
@@ -180,6 +203,8 @@ module _ {start : Firmware} (m : Mailbox) (g : Log) (k : Kept start m g) where
     reached = reaches;
     firmware = state-is;
     never5 = λ call. fives (outcome m (good m g k) call);
+    stays = λ call. staying (outcome m (good m g k) call);
+    acts = λ call. acting (outcome m (good m g k) call);
     posts = joining;
     loads = loading;
     turns = turning;
@@ -188,8 +213,7 @@ module _ {start : Firmware} (m : Mailbox) (g : Log) (k : Kept start m g) where
   }
 
 -- before firmware in any state
-pub demand3-from : (start : Firmware) (calls : List Call)
-    → Demand3 callOf start (played callOf (from (mailboxBefore start)) calls .mailbox) (played callOf (from (mailboxBefore start)) calls .log)
+pub demand3-from : DemandThreeFrom
 demand3-from start calls =
     let r = played callOf (from (mailboxBefore start)) calls in
     asked (r .mailbox) (r .log) (run-kept calls (from (mailboxBefore start)) (start-kept start))

@@ -19,11 +19,11 @@ use Rattle.mailbox_calls.proofs.CallLaws.{load-none, load-first, load-command, 
 use Rattle.mailbox_calls.proofs.CallLaws.{turn-idle, turn-command, turn-response, turn-good}
 use Rattle.mailbox_calls.proofs.CallLaws.{unload-idle, unload-command, unload-response, unload-good}
 use Rattle.mailbox_calls.proofs.CallLaws.{taken-free, taken-waiting, taken-ready, take-caller, take-good}
-use Rattle.mailbox_demand3.specs.Calls.{Call, post, load, turn, unload, take-word, Seen, posted, loaded, turned, unloaded, took, seenAs, callOf, numberIn}
+use Rattle.mailbox_demand3.specs.Calls.{Call, post, load, turn, unload, take-word, Seen, posted, loaded, turned, unloaded, took, seenAs, callOf, numberIn, actedIn}
 use Rattle.mailbox_demand3.specs.Log.{Log, noted}
 
 pub data Outcome (m : Mailbox) : After Seen → Type 0 where
-  nothing : (s : Seen) → ((g : Log) → noted g s ≡ g) → (numberIn s ≡ 5 → ⊥) → Outcome m (after m s)
+  nothing : (s : Seen) → ((g : Log) → noted g s ≡ g) → (numberIn s ≡ 5 → ⊥) → actedIn s ≡ false → Outcome m (after m s)
   joins : (c k d : ℕ) → c ≤ 7 → k ≤ 0x3FF → stateOf m c ≡ Free → Outcome m (after (joined m c k d) (posted c k d (given accepted)))
   loads : m .register ≡ Idle → (m .count ≡ 0 → ⊥) → Outcome m (after (withOldest m) (loaded (given true)))
   turns : (c w : ℕ) → m .register ≡ Command c w → Outcome m (after (withResponse m c w) (turned (given true)))
@@ -51,22 +51,22 @@ module _ (m : Mailbox) (good : true ≡ consistentOf m) where
   pub take-is : (c w : ℕ) → c ≤ 7 → stateOf m c ≡ Ready w → after (freed m c) (given w) ≡ takeOf m c
   take-is c w h e = take-good m true good refl c _ h (taken-ready m c _ w e refl)
 
-  of-post : (c k d : ℕ) → Outcome m (callOf m (post c k d))
+  of-post : (c k d : ℕ) → Outcome m (seenAs (posted c k d) (postOf m c k d))
   of-post c k d = low (decLe c 7)
     where
       quiet : (n : ℕ) → (n ≡ 5 → ⊥) → Outcome m (after m (posted c k d (refused n alone)))
-      quiet n h = nothing (posted c k d (refused n alone)) (λ g. refl) h
+      quiet n h = nothing (posted c k d (refused n alone)) (λ g. refl) h refl
 
-      go : c ≤ 7 → k ≤ 0x3FF → (s : PlaceState) → stateOf m c ≡ s → Outcome m (callOf m (post c k d))
+      go : c ≤ 7 → k ≤ 0x3FF → (s : PlaceState) → stateOf m c ≡ s → Outcome m (seenAs (posted c k d) (postOf m c k d))
       go h l Free e = by (posted c k d) (join-is c k d h l e) (joins c k d h l e)
       go h l Waiting e = by (posted c k d) (post-good m true good refl c k d _ h l (posted-waiting m c k d _ e refl)) (quiet 10 (λ q. omega arith))
       go h l (Ready w) e = by (posted c k d) (post-good m true good refl c k d _ h l (posted-ready m c k d _ w e refl)) (quiet 10 (λ q. omega arith))
 
-      command : c ≤ 7 → Dec (k ≤ 0x3FF) → Outcome m (callOf m (post c k d))
+      command : c ≤ 7 → Dec (k ≤ 0x3FF) → Outcome m (seenAs (posted c k d) (postOf m c k d))
       command h (yes l) = go h l (stateOf m c) refl
       command h (no l) = by (posted c k d) (post-command m true good refl c k d _ h (omega arith) refl) (quiet 9 (λ q. omega arith))
 
-      low : Dec (c ≤ 7) → Outcome m (callOf m (post c k d))
+      low : Dec (c ≤ 7) → Outcome m (seenAs (posted c k d) (postOf m c k d))
       low (yes h) = command h (decLe k 0x3FF)
       low (no h) = by (posted c k d) (post-caller m true good refl c k d _ (omega arith) refl) (quiet 9 (λ q. omega arith))
 
@@ -74,7 +74,7 @@ module _ (m : Mailbox) (good : true ≡ consistentOf m) where
   of-load = go (m .register) refl
     where
       quiet : Outcome m (after m (loaded (given false)))
-      quiet = nothing (loaded (given false)) (λ g. refl) (λ q. omega arith)
+      quiet = nothing (loaded (given false)) (λ g. refl) (λ q. omega arith) refl
 
       some : m .register ≡ Idle → Dec (m .count ≡ 0) → Outcome m (callOf m load)
       some e (yes z) = by loaded (load-good m true good refl _ (load-none m _ e z refl)) quiet
@@ -89,7 +89,7 @@ module _ (m : Mailbox) (good : true ≡ consistentOf m) where
   of-turn = go (m .register) refl
     where
       quiet : Outcome m (after m (turned (given false)))
-      quiet = nothing (turned (given false)) (λ g. refl) (λ q. omega arith)
+      quiet = nothing (turned (given false)) (λ g. refl) (λ q. omega arith) refl
 
       go : (p : Phase) → m .register ≡ p → Outcome m (callOf m turn)
       go Idle e = by turned (turn-good m true good refl _ (turn-idle m _ e refl)) quiet
@@ -100,7 +100,7 @@ module _ (m : Mailbox) (good : true ≡ consistentOf m) where
   of-unload = go (m .register) refl
     where
       quiet : Outcome m (after m (unloaded (given false)))
-      quiet = nothing (unloaded (given false)) (λ g. refl) (λ q. omega arith)
+      quiet = nothing (unloaded (given false)) (λ g. refl) (λ q. omega arith) refl
 
       go : (p : Phase) → m .register ≡ p → Outcome m (callOf m unload)
       go Idle e = by unloaded (unload-good m true good refl _ (unload-idle m _ e refl)) quiet
@@ -111,7 +111,7 @@ module _ (m : Mailbox) (good : true ≡ consistentOf m) where
   of-take c = low (decLe c 7)
     where
       quiet : (n : ℕ) → (n ≡ 5 → ⊥) → Outcome m (after m (took c (refused n alone)))
-      quiet n h = nothing (took c (refused n alone)) (λ g. refl) h
+      quiet n h = nothing (took c (refused n alone)) (λ g. refl) h refl
 
       go : c ≤ 7 → (s : PlaceState) → stateOf m c ≡ s → Outcome m (callOf m (take-word c))
       go h Free e = by (took c) (take-good m true good refl c _ h (taken-free m c _ e refl)) (quiet 8 (λ q. omega arith))
@@ -123,7 +123,7 @@ module _ (m : Mailbox) (good : true ≡ consistentOf m) where
       low (no h) = by (took c) (take-caller m true good refl c _ (omega arith) refl) (quiet 9 (λ q. omega arith))
 
   pub outcome : (call : Call) → Outcome m (callOf m call)
-  outcome (post c k d) = of-post c k d
+  outcome (post c k d bits) = of-post c k d
   outcome load = of-load
   outcome turn = of-turn
   outcome unload = of-unload

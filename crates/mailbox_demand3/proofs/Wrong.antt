@@ -20,7 +20,7 @@ use Rattle.mailbox_demand3.specs.Wrong.{refuses, idleLoad, idleTurn, idl
 refuses-posts : AfterAll refuses → ⊥
 unfolding played
 refuses-posts d =
-    let e = d [] .posts 0 0x81 0 (omega arith) (omega arith) refl .answer in
+    let e = d [] .posts 0 0x81 0 (omega arith) (omega arith) (omega arith) refl .answer in
     let z : _≡_ {A = ℕ} 0 1 = cc in
     omega arith
 
@@ -28,7 +28,7 @@ refuses-posts d =
 load-idles : (says : Bool) → AfterAll (idleLoad says) → ⊥
 unfolding played postOf consistentOf postsFit registerFits timesIn registerHolds allBelow
 load-idles says d =
-    let e = d (post 0 0x81 0 ∷ []) .loads refl (omega arith) .register in
+    let e = d (post 0 0x81 0 (omega arith) ∷ []) .loads refl (omega arith) .register in
     let z : _≡_ {A = ℕ} 0 1 = cc in
     omega arith
 
@@ -36,7 +36,7 @@ load-idles says d =
 turn-idles : (says : Bool) → AfterAll (idleTurn says) → ⊥
 unfolding played postOf loadOf consistentOf postsFit registerFits timesIn registerHolds allBelow wordOf
 turn-idles says d =
-    let e = d (post 0 0x81 0 ∷ load ∷ []) .turns 0 0x00810000 refl .register in
+    let e = d (post 0 0x81 0 (omega arith) ∷ load ∷ []) .turns 0 0x00810000 refl .register in
     let z : _≡_ {A = ℕ} 0 1 = cc in
     omega arith
 
@@ -44,20 +44,20 @@ turn-idles says d =
 unload-idles : (says : Bool) → AfterAll (idleUnload says) → ⊥
 unfolding played postOf loadOf turnOf consistentOf postsFit registerFits timesIn registerHolds allBelow shifted wordOf ruleOf
 unload-idles says d =
-    let e = d (post 0 0x81 0 ∷ load ∷ turn ∷ []) .unloads 0 0x80810001 refl .register in
+    let e = d (post 0 0x81 0 (omega arith) ∷ load ∷ turn ∷ []) .unloads 0 0x80810001 refl .register in
     let z : _≡_ {A = ℕ} 0 1 = cc in
     omega arith
 
 -- the interface was turned off
 turn-forgets : AfterAll forgets → ⊥
 unfolding played postOf loadOf turnOf consistentOf postsFit registerFits timesIn registerHolds allBelow shifted wordOf ruleOf stateAfter
-turn-forgets d = true≢false (ap (λ (f : Firmware). f .interface) (d (post 0 0x80 0 ∷ load ∷ turn ∷ []) .firmware))
+turn-forgets d = true≢false (ap (λ (f : Firmware). f .interface) (d (post 0 0x80 0 (omega arith) ∷ load ∷ turn ∷ []) .firmware))
 
 -- caller 1 takes the word of caller 0's post for its own
 first-repeated : AfterAll repeats → ⊥
 unfolding played postOf loadOf turnOf unloadOf takeOf consistentOf postsFit registerFits timesIn registerHolds allBelow shifted wordOf ruleOf answersTo wordsOf
 first-repeated d =
-    let b = d (post 0 0x81 0 ∷ load ∷ turn ∷ unload ∷ post 1 0x86 0 ∷ load ∷ turn ∷ unload ∷ take-word 1 ∷ []) .words 1 in
+    let b = d (post 0 0x81 0 (omega arith) ∷ load ∷ turn ∷ unload ∷ post 1 0x86 0 (omega arith) ∷ load ∷ turn ∷ unload ∷ take-word 1 ∷ []) .words 1 in
     let e : _≡_ {A = ℕ} 0x80810001 0x84860000 = ap (λ l. getD l 0 0) (b .1) in
     omega arith
 
@@ -65,7 +65,7 @@ first-repeated d =
 takes-any : AfterAll anyTake → ⊥
 unfolding played postOf loadOf turnOf unloadOf takeOf consistentOf postsFit registerFits timesIn registerHolds allBelow shifted wordOf ruleOf answersTo wordsOf
 takes-any d =
-    let b = d (post 0 0x81 0 ∷ load ∷ turn ∷ unload ∷ take-word 1 ∷ []) .words 1 in
+    let b = d (post 0 0x81 0 (omega arith) ∷ load ∷ turn ∷ unload ∷ take-word 1 ∷ []) .words 1 in
     let e : length (0x80810001 ∷ b .0) ≡ 0 = ap length (b .1) in
     omega arith
 

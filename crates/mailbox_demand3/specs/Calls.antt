@@ -1,13 +1,17 @@
 -- Any call on a mailbox, and what an onlooker sees of it. Assumes nothing: these are definitions.
-use mathlib.Core.Bool.{Bool}
-use Prim.Native.Nat.{ℕ}
+use mathlib.Core.Bool.{Bool, true, false}
+use Prim.Native.Nat.{ℕ, _<_}
 use Rattle.reply.specs.Reply.{Reply, given, refused}
 use Rattle.mailbox.specs.declared.Mailbox.{Mailbox}
 use Rattle.mailbox_calls.specs.Calls.{After, after, Accepted, postOf, loadOf, turnOf, unloadOf, takeOf}
 
+-- a post has 16 data bits
+abbrev pub Sixteen : (d : ℕ) → Type 0
+Sixteen d = d < 0x1_0000
+
 -- a call, by any caller
 pub data Call : Type 0 where
-  post : (caller command d : ℕ) → Call
+  post : (caller command d : ℕ) → Sixteen d → Call
   load : Call
   turn : Call
   unload : Call
@@ -31,7 +35,7 @@ Server = Mailbox → Call → After Seen
 -- a server by its five calls
 abbrev pub serverOf : (Mailbox → (caller command d : ℕ) → After (Reply Accepted)) → (loads turns unloads : Mailbox → After (Reply Bool))
     → (Mailbox → (caller : ℕ) → After (Reply ℕ)) → Server
-serverOf posts loads turns unloads takes m (post caller command d) = seenAs (posted caller command d) (posts m caller command d)
+serverOf posts loads turns unloads takes m (post caller command d bits) = seenAs (posted caller command d) (posts m caller command d)
 serverOf posts loads turns unloads takes m load = seenAs loaded (loads m)
 serverOf posts loads turns unloads takes m turn = seenAs turned (turns m)
 serverOf posts loads turns unloads takes m unload = seenAs unloaded (unloads m)
@@ -52,3 +56,19 @@ numberIn (loaded r) = numberOf r
 numberIn (turned r) = numberOf r
 numberIn (unloaded r) = numberOf r
 numberIn (took caller r) = numberOf r
+
+-- the call acted: a post is accepted, a word is taken, a load, turn or unload says yes
+abbrev pub yesIn : Reply Bool → Bool
+yesIn (given acted) = acted
+yesIn (refused number carried) = false
+
+abbrev pub isGiven : {A : Type 0} → Reply A → Bool
+isGiven (given a) = true
+isGiven (refused number carried) = false
+
+abbrev pub actedIn : Seen → Bool
+actedIn (posted caller command d r) = isGiven r
+actedIn (loaded r) = yesIn r
+actedIn (turned r) = yesIn r
+actedIn (unloaded r) = yesIn r
+actedIn (took caller r) = isGiven r

@@ -1,5 +1,5 @@
--- Demand 3, stated: what holds after any finite list of calls from the fresh mailbox. The proof stands in proofs/Demand3.antt.
-use mathlib.Core.Bool.{true}
+-- Demand 3, stated: what holds after any finite list of calls from the fresh mailbox, and from an empty one before firmware in any state. The proof stands in proofs/Demand3.antt.
+use mathlib.Core.Bool.{true, false}
 use mathlib.Core.List.{List, [], _∷_, _++_}
 use mathlib.Core.Path.{_≡_}
 use Prim.Native.Nat.{ℕ, _+_, _<_, _≤_}
@@ -12,9 +12,9 @@ use Rattle.mailbox.specs.declared.PlaceState.{PlaceState}
 use Rattle.mailbox.specs.declared.PlaceState.the-variants.{Free, Waiting, Ready}
 use Rattle.mailbox.specs.declared.Post.{Post}
 use Rattle.mailbox.specs.declared.Mailbox.{Mailbox}
-use Rattle.mailbox.specs.Machine.{postBy, noPost, commandWord, waiting, stateOf, freshMailbox}
+use Rattle.mailbox.specs.Machine.{postBy, noPost, commandWord, waiting, stateOf, mailboxBefore}
 use Rattle.mailbox_calls.specs.Calls.{After, accepted}
-use Rattle.mailbox_demand3.specs.Calls.{Call, post, load, turn, unload, take-word, Seen, posted, loaded, turned, unloaded, took, Server, callOf, numberIn}
+use Rattle.mailbox_demand3.specs.Calls.{Sixteen, Call, post, load, turn, unload, take-word, Seen, posted, loaded, turned, unloaded, took, Server, callOf, numberIn, actedIn}
 use Rattle.mailbox_demand3.specs.Log.{Log, from, played}
 use Rattle.mailbox_demand3.specs.Sequence.{stateAfter, answersTo, wordsOf}
 
@@ -87,8 +87,12 @@ pub record Demand3 (serve : Server) (start : Firmware) (m : Mailbox) (g : Log) :
   pub firmware : m .firmware ≡ stateAfter start (take (g .turns) (g .line))
   -- no call answers 5
   pub never5 : (call : Call) → numberIn (serve m call .answer) ≡ 5 → ⊥
+  -- a call that is refused or answers no changes nothing, and every other call changes the mailbox
+  pub stays : (call : Call) → actedIn (serve m call .answer) ≡ false → serve m call .mailbox ≡ m
+  pub acts : (call : Call) → actedIn (serve m call .answer) ≡ true → serve m call .mailbox ≡ m → ⊥
   -- a caller with no untaken post can post
-  pub posts : (caller command d : ℕ) → caller ≤ 7 → command ≤ 0x3FF → stateOf m caller ≡ Free → Joins m (postBy caller command d) (serve m (post caller command d))
+  pub posts : (caller command d : ℕ) (bits : Sixteen d) → caller ≤ 7 → command ≤ 0x3FF → stateOf m caller ≡ Free
+      → Joins m (postBy caller command d) (serve m (post caller command d bits))
   -- a load on an idle register takes the oldest accepted post that is not yet turned
   pub loads : m .register ≡ Idle → g .turns < length (g .line) → Loads m (getD (g .line) (g .turns) noPost) (serve m load)
   -- a turn answers a command there
@@ -98,9 +102,18 @@ pub record Demand3 (serve : Server) (start : Firmware) (m : Mailbox) (g : Log) :
   -- a delivered word can be taken by its caller
   pub takes : (caller word : ℕ) → caller ≤ 7 → stateOf m caller ≡ Ready word → Takes m caller word (serve m (take-word caller))
 
--- ---- the theorem: it holds of document 01's mailbox after every finite list of calls from the fresh one
+-- after every finite list of calls, from the empty mailbox before firmware in this state
+abbrev pub AfterAllFrom : Server → (start : Firmware) → Type 0
+AfterAllFrom serve start =
+    (calls : List Call) → Demand3 serve start (played serve (from (mailboxBefore start)) calls .mailbox) (played serve (from (mailboxBefore start)) calls .log)
+
+-- from the fresh mailbox
 abbrev pub AfterAll : Server → Type 0
-AfterAll serve = (calls : List Call) → Demand3 serve freshFirmware (played serve (from freshMailbox) calls .mailbox) (played serve (from freshMailbox) calls .log)
+AfterAll serve = AfterAllFrom serve freshFirmware
+
+-- ---- the theorem: it holds of document 01's mailbox, whatever state its firmware began in
+abbrev pub DemandThreeFrom : Type 0
+DemandThreeFrom = (start : Firmware) → AfterAllFrom callOf start
 
 abbrev pub DemandThree : Type 0
 DemandThree = AfterAll callOf

@@ -1,13 +1,13 @@
 -- A call on the words of a mailbox is the mailbox's own, proved. Assumes nothing.
-use mathlib.Core.Bool.{true}
+use mathlib.Core.Bool.{true, false}
 use mathlib.Core.Path.{_≡_, refl, sym, ap, subst, _∙_}
 use mathlib.Core.List.{List, _++_}
-use Prim.Native.Nat.{ℕ, _+_, _<_}
+use Prim.Native.Nat.{ℕ, _<_, _≤_}
 use native.Mathlib.Omega.{arith}
 use lib.ListN.{length, drop, length-append}
 use lib.Seq.{drop-append-seam}
 use lib.Dec.{leb}
-use borrow.Author.Tests.{le-leb}
+use borrow.Author.Tests.{le-leb, lt-leb}
 use Rattle.reply.specs.Reply.{Reply, given, refused, guard}
 use Rattle.lent.specs.Lent.{numberOf, wordsFor}
 use Rattle.lent.proofs.Laws.{words-fits}
@@ -17,7 +17,7 @@ use Rattle.mailbox.specs.Machine.{stateOf, isFree, joined}
 use Rattle.mailbox.specs.Consistent.{consistentOf}
 use Rattle.mailbox_calls.specs.Calls.{After, after, leaves, accepted, loadedFrom, turnedFrom, unloadedFrom, takenFrom, postOf, loadOf, turnOf, unloadOf, takeOf}
 use Rattle.mailbox_layout.specs.Layout.{packOf}
-use Rattle.mailbox_words.specs.Calls.{layAccepted, layActed, layWord, Left, leftWith, leftBy, callOn, postOn, loadOn, turnOn, unloadOn, takeOn}
+use Rattle.mailbox_words.specs.Calls.{layAccepted, layActed, layWord, Left, left, leftWith, leftBy, callOn, postOn, loadOn, turnOn, unloadOn, takeOn}
 use Rattle.mailbox_held.specs.Held.{heldIn}
 use Rattle.mailbox_runs.specs.Typed.{Typed}
 use Rattle.mailbox_runs.specs.Faithful.{Room, valuesAfter, Through, AllFaithful}
@@ -33,6 +33,9 @@ front-packed m n behind v w =
     let l = length-append (packOf m) behind in
     let e : length (packOf n) ≡ length (packOf m) = omega arith in
     sym (words-fits (packOf n) (packOf m ++ behind) (omega arith)) ∙ ap (λ t. packOf n ++ t) (ap (λ j. drop j (packOf m ++ behind)) e ∙ drop-append-seam (packOf m) behind)
+
+more-leb : (a b : ℕ) → (a ≤ b → ⊥) → leb a b ≡ false
+more-leb a b h = lt-leb a b (omega arith)
 
 module _ {A : Type 0} (lay : A → List ℕ) (call : Mailbox → After (Reply A)) (m : Mailbox) (k : Typed m) (x : Reply (After A)) (is : call m ≡ leaves m x) (typed : Typed (call m .mailbox)) where
   held : (behind : List ℕ) → heldIn (packOf m ++ behind) ≡ true
@@ -58,6 +61,11 @@ module _ {A : Type 0} (lay : A → List ℕ) (call : Mailbox → After (Reply A)
   values-of (given a) behind values room = rw (le-leb _ _ room)
   values-of (refused number carried) behind values room = refl
 
+  short-of : (y : Reply (After A)) (behind values : List ℕ) → (Room lay (leaves m y .answer) values → ⊥) → leftBy lay (leaves m y .mailbox) (leaves m y .answer) (packOf m ++ behind) values ≡ left 12 (packOf m ++ behind) values
+  unfolding leftWith
+  short-of (given a) behind values none = rw (more-leb _ _ none)
+  short-of (refused number carried) behind values none = absurd (none tt)
+
   through : Through lay (call m) (callOn lay call) m
   through =
       subst (λ (a : After (Reply A)). Typed (a .mailbox) → Through lay a (callOn lay call) m) (sym is)
@@ -65,6 +73,7 @@ module _ {A : Type 0} (lay : A → List ℕ) (call : Mailbox → After (Reply A)
         number = λ behind values room. ap (λ (l : Left). l .number) (on behind values) ∙ number-of x behind values room;
         words = λ behind values room. ap (λ (l : Left). l .words) (on behind values) ∙ words-of x t behind values room;
         values = λ behind values room. ap (λ (l : Left). l .values) (on behind values) ∙ values-of x behind values room;
+        no-room = λ behind values none. on behind values ∙ short-of x behind values none;
         typed = t;
       }) typed
 

@@ -9,7 +9,7 @@ use Rattle.mailbox.specs.declared.Mailbox.{Mailbox}
 use Rattle.mailbox.specs.Machine.{freshMailbox}
 use Rattle.mailbox_calls.specs.Calls.{After, postOf, loadOf, turnOf, unloadOf, takeOf}
 use Rattle.mailbox_layout.specs.Layout.{wordsOfMailbox, packOf, unpackOf}
-use Rattle.mailbox_words.specs.Calls.{layAccepted, layActed, layWord, Left, postOn, loadOn, turnOn, unloadOn, takeOn}
+use Rattle.mailbox_words.specs.Calls.{layAccepted, layActed, layWord, Left, left, postOn, loadOn, turnOn, unloadOn, takeOn}
 use Rattle.mailbox_runs.specs.Typed.{Typed}
 
 -- the values' words have room for what is given
@@ -27,7 +27,9 @@ pub record Through {A : Type 0} (lay : A → List ℕ) (a : After (Reply A)) (on
   pub number : (behind values : List ℕ) → Room lay (a .answer) values → on (packOf m ++ behind) values .number ≡ numberOf (a .answer)
   pub words : (behind values : List ℕ) → Room lay (a .answer) values → on (packOf m ++ behind) values .words ≡ packOf (a .mailbox) ++ behind
   pub values : (behind values : List ℕ) → Room lay (a .answer) values → on (packOf m ++ behind) values .values ≡ valuesAfter lay (a .answer) values
-  -- and the mailbox after it is typed too
+  -- without room: 12, and all words as they were
+  pub no-room : (behind values : List ℕ) → (Room lay (a .answer) values → ⊥) → on (packOf m ++ behind) values ≡ left 12 (packOf m ++ behind) values
+  -- the mailbox after it is typed too
   pub typed : Typed (a .mailbox)
 
 pub record Faithful (m : Mailbox) : Type 0 where

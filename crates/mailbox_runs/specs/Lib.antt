@@ -1,3 +1,4 @@
 pub mod Typed
 pub mod Faithful
+pub mod Boundary
 pub mod Runs
