@@ -1,6 +1,6 @@
 -- Demand 3 at the boundary, proved: a run of calls through lent words is the mailbox's own run of those that had room. Assumes nothing.
 use mathlib.Core.Path.{_≡_, refl, sym, ap, subst, _∙_}
-use mathlib.Core.Bool.{Bool, true, false, cond}
+use mathlib.Core.Bool.{Bool, true, false}
 use mathlib.Core.List.{List, [], _∷_, _++_}
 use Prim.Native.Nat.{ℕ, _≤_}
 use native.Mathlib.Omega.{arith}
@@ -27,7 +27,7 @@ use Rattle.mailbox_layout.specs.Layout.{wordsOfMailbox, packOf, unpackOf}
 use Rattle.mailbox_words.specs.Calls.{layAccepted, layActed, layWord, Left, left, freshWords}
 use Rattle.mailbox_runs.specs.Typed.{Typed}
 use Rattle.mailbox_runs.specs.Faithful.{Room, valuesAfter, Through}
-use Rattle.mailbox_runs.specs.Boundary.{CallOn, onWords, readAs, firstOf, seenOn, RunOn, runOn, noting, playedOn, fromFresh, behindOf, withRoom, serverOn}
+use Rattle.mailbox_runs.specs.Boundary.{CallOn, onWords, readAs, firstOf, seenOn, RunOn, runOn, noting, playedOn, fromFresh, behindOf, unlessShort, withRoom, serverOn}
 use Rattle.mailbox_runs.specs.Runs.{ownRun, SameRuns, Demand3AtTheBoundary}
 use Rattle.mailbox_runs.proofs.Faithful.{all-faithful}
 
@@ -168,7 +168,7 @@ module _ (r : Run) (behind : List ℕ) (c : CallOn) (calls : List CallOn) where
   one-more : EndsAs r behind (playedOn (inWords r behind) calls) (withRoom (packOf (r .mailbox) ++ behind) calls)
       → (Typed (next .mailbox) → EndsAs next behind (playedOn (inWords next behind) calls) (withRoom (packOf (next .mailbox) ++ behind) calls))
       → {l : Left} → StepOn (r .mailbox) behind (c .values) (seenOn (c .call)) (callOf (r .mailbox) (c .call)) l
-      → EndsAs r behind (playedOn (noting (r .log) (c .call) l) calls) (cond (eqb (l .number) 12) (withRoom (l .words) calls) (c .call ∷ withRoom (l .words) calls))
+      → EndsAs r behind (playedOn (noting (r .log) (c .call) l) calls) (unlessShort (l .number) (c .call) (withRoom (l .words) calls))
   unfolding played
   one-more stay go (served l n w s t) =
       let ended = subst (λ on. EndsAs next behind (playedOn on calls) (withRoom (packOf (next .mailbox) ++ behind) calls)) (λ i. runOn (sym w i) (noted (r .log) (sym s i))) (go t) in

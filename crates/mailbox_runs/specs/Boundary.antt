@@ -67,11 +67,13 @@ abbrev pub behindOf : (lent : List ℕ) → List ℕ
 behindOf lent = drop wordsOfMailbox lent
 
 -- the calls that had room for what they give: all that were not answered 12
+abbrev pub unlessShort : (number : ℕ) → Call → List Call → List Call
+unlessShort number call later = cond (eqb number 12) later (call ∷ later)
+
 unfoldable pub withRoom : (words : List ℕ) (calls : List CallOn) → List Call
 withRoom words [] = []
 withRoom words (c ∷ calls) =
-    cond (eqb (onWords words (c .call) (c .values) .number) 12) (withRoom (onWords words (c .call) (c .values) .words) calls)
-    (c .call ∷ withRoom (onWords words (c .call) (c .values) .words) calls)
+    unlessShort (onWords words (c .call) (c .values) .number) (c .call) (withRoom (onWords words (c .call) (c .values) .words) calls)
 
 -- ---- the words as a server: the mailbox in words, the call made there, and the mailbox read back
 abbrev pub serverOn : (behind values : List ℕ) → Server
