@@ -1,4 +1,4 @@
--- Wrong mailboxes that demand 3 rules out, stated: document 01 names the first seven under "When a promise says too little". The proofs stand in proofs/Wrong.antt.
+-- Wrong mailboxes that demand 3 rules out, stated: document 01 names some of them under "When a promise says too little". The proofs stand in proofs/Wrong.antt.
 use mathlib.Core.Bool.{Bool, true, cond}
 use mathlib.Core.List.{List, [], _∷_}
 use Prim.Native.Nat.{ℕ, _+_}
