@@ -18,13 +18,13 @@ use Rattle.aspt_build.specs.Write.{ownOf, structureBytes, bytesWith, tableBytes
 use Rattle.guids.specs.Table.{footer, headerOf, lengthBefore, entriesIn}
 use Rattle.guids_build.specs.Write.{startOf as guidStartOf, allZero, roomFor as guidRoomFor}
 use Rattle.firmware.specs.Word.{wordOf}
-use Rattle.firmware.specs.Rules.{deliveryOf, ruleOf}
+use Rattle.firmware.specs.Rules.{settledOf, deliveryOf, ruleOf}
 use Rattle.mailbox.specs.Consistent.{postsFit, registerFits, timesIn, registerHolds, allBelow, consistentOf}
-use Rattle.mailbox_calls.specs.Calls.{postOf, takeOf}
+use Rattle.mailbox_calls.specs.Calls.{postOf, loadOf, turnOf, unloadOf, takeOf}
 use Rattle.values.specs.Orders.{Orders}
 
 pub orders : Orders
-unfolding leAt leBytes putBytes wordsAt wordSum weightedOf fletcherOf offsetIn scan someBelow directoryAt directoryByCookie leadsTo partWithin partOf candidateAt pointerTo pointerOf flashDirectory checkAt entryBytes startOf roomFor bytesOf sumOf fresh idFits registersFit structureChecks structuresChecks reservedZero ownOf structureBytes bytesWith tableBytes headerChecks tableOf readOf admitOf writeOf footer headerOf lengthBefore entriesIn guidStartOf allZero guidRoomFor wordOf deliveryOf ruleOf postsFit registerFits timesIn registerHolds allBelow consistentOf postOf takeOf
+unfolding leAt leBytes putBytes wordsAt wordSum weightedOf fletcherOf offsetIn scan someBelow directoryAt directoryByCookie leadsTo partWithin partOf candidateAt pointerTo pointerOf flashDirectory checkAt entryBytes startOf roomFor bytesOf sumOf fresh idFits registersFit structureChecks structuresChecks reservedZero ownOf structureBytes bytesWith tableBytes headerChecks tableOf readOf admitOf writeOf footer headerOf lengthBefore entriesIn guidStartOf allZero guidRoomFor wordOf settledOf deliveryOf ruleOf postsFit registerFits timesIn registerHolds allBelow consistentOf postOf loadOf turnOf unloadOf takeOf
 orders = record {
   directory = refl;
   limit = refl;
@@ -39,7 +39,11 @@ orders = record {
   guids = refl;
   guid-start = refl;
   guid-room = refl;
+  consistent = refl;
   post = refl;
   take-word = refl;
+  load = refl;
+  turn = refl;
+  unload = refl;
   status = refl;
 }

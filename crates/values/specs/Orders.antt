@@ -16,10 +16,10 @@ use Rattle.guids.specs.Table.{tableOf}
 use Rattle.guids_build.specs.Write.{startOf as guidStartOf, roomFor as guidRoomFor}
 use Rattle.firmware.specs.Word.{statusIn}
 use Rattle.firmware.specs.Rules.{runOf}
-use Rattle.mailbox_calls.specs.Calls.{postOf, takeOf}
+use Rattle.mailbox_calls.specs.Calls.{postOf, loadOf, turnOf, unloadOf, takeOf}
 use Rattle.values.specs.Images.{Row, zeros, atTheStart, directoryRows, limitRows, flashRows, partRows, placeRows, startRows, extendRows, roomRows}
 use Rattle.values.specs.Tables.{readRows, writeRows, guidRows, guidStartRows, guidRoomRows}
-use Rattle.values.specs.Mailboxes.{postRows, takeRows, statusRows}
+use Rattle.values.specs.Mailboxes.{consistentRows, postRows, takeRows, stepNumber, loadRows, turnRows, unloadRows, statusRows}
 
 -- every row has the number that is answered
 abbrev pub Right : {A : Type 0} → (A → ℕ) → List (Row A) → Type 0
@@ -39,6 +39,10 @@ pub record Orders : Type 0 where
   pub guids : Right (λ s. numberOf (tableOf s)) guidRows
   pub guid-start : Right (λ s. numberOf (guidStartOf s)) guidStartRows
   pub guid-room : Right (λ a. numberOf (guidRoomFor (a .0) (a .1) (a .2))) guidRoomRows
+  pub consistent : Right (λ m. numberOf (loadOf m .answer)) consistentRows
   pub post : Right (λ a. numberOf (postOf (a .0) (a .1) (a .2) 0 .answer)) postRows
   pub take-word : Right (λ a. numberOf (takeOf (a .0) (a .1) .answer)) takeRows
+  pub load : Right (λ m. stepNumber (loadOf m .answer)) loadRows
+  pub turn : Right (λ m. stepNumber (turnOf m .answer)) turnRows
+  pub unload : Right (λ m. stepNumber (unloadOf m .answer)) unloadRows
   pub status : Right (λ a. statusIn (runOf (a .0) (a .1) .word)) statusRows
