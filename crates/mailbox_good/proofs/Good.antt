@@ -2,10 +2,10 @@
 use mathlib.Core.Bool.{true}
 use mathlib.Core.Logic.{_⊎_, inl, inr}
 use mathlib.Core.Path.{_≡_, refl, sym, ap, _∙_}
-use Prim.Native.Nat.{ℕ, zero, suc, _+_, _/_, _<_, _≤_}
+use Prim.Native.Nat.{ℕ, _+_, _/_, _<_, _≤_}
 use native.Mathlib.Omega.{arith}
 use native.Mathlib.Decide.{ℕ-discrete, decLt}
-use lib.ListN.{length, getD}
+use lib.ListN.{length}
 use lib.Seq.{getD-take, length-take-le}
 use lib.Dec.{leb}
 use borrow.Author.Tests.{eq-eqb, ne-eqb, le-leb, leb-true}
@@ -15,9 +15,9 @@ use Rattle.mailbox.specs.declared.PlaceState.{PlaceState}
 use Rattle.mailbox.specs.declared.PlaceState.the-variants.{Free, Waiting, Ready}
 use Rattle.mailbox.specs.declared.Mailbox.{Mailbox}
 use Rattle.mailbox.specs.Machine.{noPost, waiting, stateOf}
-use Rattle.mailbox.specs.Consistent.{postFits, postsFit, registerFits, timesIn, registerHolds, waits, consistentOf}
+use Rattle.mailbox.specs.Consistent.{postFits, registerFits, timesIn, registerHolds, waits}
 use Rattle.mailbox.proofs.Facts.{Consistent, both, consistent-facts, consistent-test}
-use Rattle.mailbox_good.specs.Good.{postAt, InLine, InRegister, GoodMailbox, BothWays, ConsistentBothWays}
+use Rattle.mailbox_good.specs.Good.{postAt, InLine, InRegister, GoodMailbox, ConsistentBothWays}
 use Rattle.mailbox_good.proofs.LineFacts.{At, fit-at, fit-all, times-at, times-twice, times-found, times-found-two}
 
 -- ---- a place

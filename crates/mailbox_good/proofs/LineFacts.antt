@@ -1,16 +1,15 @@
 -- Posts by their index in a list, against how many of them are a caller's. Assumes nothing.
-use mathlib.Core.Bool.{Bool, true, false, _&&_}
+use mathlib.Core.Bool.{true}
 use mathlib.Core.List.{List, [], _∷_}
 use mathlib.Core.Path.{_≡_, refl}
 use Prim.Native.Nat.{ℕ, zero, suc, _+_, _<_, _≤_}
 use native.Mathlib.Omega.{arith}
 use native.Mathlib.Decide.{ℕ-discrete}
 use lib.ListN.{length, getD}
-use lib.Dec.{eqb}
 use borrow.Author.Tests.{eq-eqb, ne-eqb}
 use Rattle.mailbox.specs.declared.Post.{Post}
 use Rattle.mailbox.specs.Machine.{noPost}
-use Rattle.mailbox.specs.Consistent.{postFits, postsFit, once, timesIn}
+use Rattle.mailbox.specs.Consistent.{postFits, postsFit, timesIn}
 use Rattle.mailbox.proofs.Facts.{both}
 
 -- ---- every post fits

@@ -1,10 +1,9 @@
 -- Each wrong test is wrong of one small mailbox. Assumes nothing.
-use mathlib.Core.Bool.{true, false, _&&_, false≢true}
+use mathlib.Core.Bool.{false, _&&_, false≢true}
 use mathlib.Core.Logic.{_⊎_, inl, inr}
-use mathlib.Core.Path.{_≡_, refl, ap}
+use mathlib.Core.Path.{refl, ap}
 use Prim.Native.Nat.{ℕ}
 use native.Mathlib.Omega.{arith}
-use lib.Dec.{eqb}
 use lib.ListN.{set}
 use Rattle.firmware.specs.Rules.{freshFirmware, interfaceOff}
 use Rattle.firmware.specs.declared.Firmware.{Firmware}
@@ -14,14 +13,18 @@ use Rattle.mailbox.specs.declared.Mailbox.{Mailbox}
 use Rattle.mailbox.specs.Machine.{mailboxBefore, freshMailbox, placeWith, joined, handedOver}
 use Rattle.mailbox.specs.Consistent.{postsFit, registerFits, timesIn, registerHolds, waits, allBelow, consistentOf}
 use Rattle.mailbox_good.specs.Good.{InLine, GoodMailbox, BothWays}
-use Rattle.mailbox_good.specs.Wrong.{testWith, commandFits, noMore, readyToo, WrongTests}
+use Rattle.mailbox_good.specs.Wrong.{testWith, asMany, commandFits, noMore, readyToo, WrongTests}
 use Rattle.mailbox_good.proofs.Good.{consistent-both-ways}
+
+right-parts : BothWays (testWith registerFits asMany)
+unfolding consistentOf
+right-parts = record { only = consistent-both-ways .only; all = consistent-both-ways .all }
 
 -- a response of caller 8 in the register
 held-for-8 : Mailbox
 held-for-8 = record { register = Response 8 0; count = 0; line = freshMailbox .line; places = freshMailbox .places; firmware = freshFirmware }
 
-register-caller-dropped : BothWays (testWith commandFits (λ posts state. eqb posts (waits state))) → ⊥
+register-caller-dropped : BothWays (testWith commandFits asMany) → ⊥
 unfolding held-for-8 postsFit timesIn registerHolds allBelow
 register-caller-dropped d = let h = d .only held-for-8 refl refl .register-caller 8 refl in omega arith
 
@@ -59,6 +62,7 @@ firmware-asked d = false≢true (d .all (mailboxBefore (interfaceOff freshFirmwa
 
 pub wrong-tests : WrongTests
 wrong-tests = record {
+  right-parts = right-parts;
   register-caller-dropped = register-caller-dropped;
   waiting-with-no-post = waiting-with-no-post;
   ready-beside-a-post = ready-beside-a-post;

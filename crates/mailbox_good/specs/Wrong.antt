@@ -1,4 +1,4 @@
--- Tests of mailboxes that accept too many or too few, stated. The proofs stand in proofs/Wrong.antt.
+-- Tests of mailboxes that accept too many or too few do not accept exactly the good ones, stated. The proofs stand in proofs/Wrong.antt.
 use Prim.Native.Nat.{ℕ, _+_, _/_}
 use mathlib.Core.Bool.{Bool, true, false, _&&_}
 use lib.Dec.{eqb, leb}
@@ -19,13 +19,17 @@ testWith register caller m =
     && register (m .register)
     && allBelow 8 (λ c. caller (timesIn c (waiting m) + registerHolds c (m .register)) (stateOf m c))
 
+-- as many posts as the place says: with this and `registerFits` it is the right test
+abbrev pub asMany : (posts : ℕ) → PlaceState → Bool
+asMany posts state = eqb posts (waits state)
+
 -- any caller in the register
 abbrev pub commandFits : Phase → Bool
 commandFits Idle = true
 commandFits (Command caller word) = leb (word / 0x1_0000) 0x3FF
 commandFits (Response caller word) = true
 
--- at most as many posts as the place says
+-- at most as many posts as the place says: it may wait for none
 abbrev pub noMore : (posts : ℕ) → PlaceState → Bool
 noMore posts state = leb posts (waits state)
 
@@ -36,8 +40,9 @@ readyToo posts Waiting = eqb posts 1
 readyToo posts (Ready word) = leb posts 1
 
 pub record WrongTests : Type 0 where
+  pub right-parts : BothWays (testWith registerFits asMany)
   -- they accept too many
-  pub register-caller-dropped : BothWays (testWith commandFits (λ posts state. eqb posts (waits state))) → ⊥
+  pub register-caller-dropped : BothWays (testWith commandFits asMany) → ⊥
   pub waiting-with-no-post : BothWays (testWith registerFits noMore) → ⊥
   pub ready-beside-a-post : BothWays (testWith registerFits readyToo) → ⊥
   -- they accept too few

@@ -2,7 +2,7 @@
 use Prim.Native.Nat.{ℕ, _-_}
 use mathlib.Core.Bool.{Bool, true, false}
 use mathlib.Core.List.{List, [], _∷_, _++_, map}
-use lib.ListN.{length, replicate}
+use lib.ListN.{length, replicate, take}
 use Rattle.reply.specs.Reply.{Reply, given, refused}
 use Rattle.firmware.specs.Rules.{freshFirmware, interfaceOff, holding, saving, runOf}
 use Rattle.firmware.specs.declared.Part.the-variants.{Held}
@@ -45,8 +45,8 @@ abbrev pub eight : List Post
 eight = map (λ caller. postBy caller 0x3FF 0xFFFF) (0 ∷ 1 ∷ 2 ∷ 3 ∷ 4 ∷ 5 ∷ 6 ∷ 7 ∷ [])
 
 -- caller 7 alone waits
-abbrev pub seventh : List PlaceState
-seventh = replicate 7 Free ++ (Waiting ∷ [])
+abbrev pub sevenWaits : List PlaceState
+sevenWaits = replicate 7 Free ++ (Waiting ∷ [])
 
 -- one rule broken, or none
 abbrev pub consistentRows : List (Row Mailbox)
@@ -54,15 +54,15 @@ consistentRows =
     row freshMailbox 0
     ∷ row (mailboxWith Idle 8 eight (replicate 8 Waiting)) 0  -- eight in line, with the largest command
     ∷ row (mailboxWith Idle 9 eight (replicate 8 Waiting)) 5  -- nine
-    ∷ row (mailboxWith Idle 1 (postBy 7 0x80 0 ∷ []) seventh) 0
+    ∷ row (mailboxWith Idle 1 (postBy 7 0x80 0 ∷ []) sevenWaits) 0
     ∷ row (mailboxWith Idle 1 (postBy 8 0x80 0 ∷ []) []) 5  -- a caller 8 in line
     ∷ row (mailboxWith Idle 1 (postBy 0 0x400 0 ∷ []) (Waiting ∷ [])) 5  -- a command above 0x3FF in line
     ∷ row (mailboxWith Idle 0 (postBy 8 0x400 0 ∷ []) []) 0  -- anything in a slot that is not in use
     ∷ row (mailboxWith Idle 1 (postOf0 ∷ postOf0 ∷ []) (Waiting ∷ [])) 0
-    ∷ row (mailboxWith (Command 7 0x3FF_FFFF) 0 [] seventh) 0
+    ∷ row (mailboxWith (Command 7 0x3FF_FFFF) 0 [] sevenWaits) 0
     ∷ row (mailboxWith (Command 8 0x80_0000) 0 [] []) 5  -- a caller 8 in the register
-    ∷ row (mailboxWith (Response 7 0xFFFF_FFFF) 0 [] seventh) 0  -- any word for a response
-    ∷ row (mailboxWith (Response 7 0) 0 [] seventh) 0
+    ∷ row (mailboxWith (Response 7 0xFFFF_FFFF) 0 [] sevenWaits) 0  -- any word for a response
+    ∷ row (mailboxWith (Response 7 0) 0 [] sevenWaits) 0
     ∷ row (mailboxWith (Response 8 0) 0 [] []) 5
     ∷ row (mailboxWith (Command 0 0x400_0000) 0 [] (Waiting ∷ [])) 5  -- bit 26 of a command word, and each above it
     ∷ row (mailboxWith (Command 0 0x800_0000) 0 [] (Waiting ∷ [])) 5
@@ -93,12 +93,14 @@ postRows =
     row (broken, 8, 0x400) 5  -- 5 before 9
     ∷ row (broken, 0, 0) 5  -- and before 10
     ∷ row (freshMailbox, 8, 0) 9
-    ∷ row (waits, 8, 0x400) 9  -- of the caller and of the command
+    ∷ row (freshMailbox, 8, 0x400) 9  -- 9 for the caller before 9 for the command
+    ∷ row (freshMailbox, 7, 0x400) 9
     ∷ row (waits, 0, 0x400) 9  -- 9 before 10
     ∷ row (waits, 0, 0x3FF) 10
     ∷ row (ready, 0, 0x3FF) 10
     ∷ row (mailboxWith (Response 0 0) 0 [] (Waiting ∷ []), 0, 0) 10
     ∷ row (waits, 7, 0x3FF) 0
+    ∷ row (mailboxWith Idle 7 (take 7 eight) (replicate 7 Waiting), 7, 0x3FF) 0  -- the eighth in line
     ∷ []
 
 -- a mailbox and a caller
@@ -160,6 +162,7 @@ statusRows =
     ∷ row (interfaceOff freshFirmware, 0x0085_0403) 0x1F  -- 0x1F before 2
     ∷ row (interfaceOff freshFirmware, 0x0085_0600) 0x1F  -- bit 9
     ∷ row (interfaceOff freshFirmware, 0x0085_0401) 2
+    ∷ row (interfaceOff freshFirmware, 0x0085_0400) 2  -- for disabling too
     ∷ row (saving (interfaceOff freshFirmware) 0 0 0x400, 0x0085_0401) 0
     ∷ row (freshFirmware, 0x0086_0000) 1
     ∷ row (runOf (holding (interfaceOff freshFirmware) (Held 0) (Held 0) (Held 0x400)) 0x0082_0000 .firmware, 0x0085_0401) 0  -- all three held: the next that comes is saved with them
