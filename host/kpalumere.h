@@ -187,7 +187,8 @@ uint64_t kpalumere_extend(uint8_t *buf, size_t buf_len, uint8_t type, uint8_t su
  *   7 to 11  the first structure: type, ID byte, and three register offsets in the order of the source's table
  *   12 to 16 and 17 to 21  the second and the third structure
  *
- * A field that a structure's type lacks is no part of it: it is read as 0, and neither checked nor written.
+ * A field that a structure's type lacks is no part of it: its word is read as 0, and written it is not looked at. Type 2 has the
+ * first register alone, and no type but 1 has an ID byte.
  */
 
 /* Reads the table in the first 112 bytes; more are ignored.
@@ -200,8 +201,10 @@ uint64_t kpalumere_aspt_read(const uint8_t *bytes, size_t bytes_len, uint64_t *w
 
 /* Writes the table of 22 words over the buffer's first 112 bytes, and keeps the bytes behind. The words are only read.
  *
- * Answers 0; 1 where words_len is below 22; 5 where a word is wider than its field; then 5 (base address, type 1's ID byte),
- * 6 (type of a structure) or 7 (register outside its space); 12 where buf_len is below 112. What is refused changes no byte.
+ * Answers 0; 1 where words_len is below 22; 5 where a word is wider than its field, of those before the structures and of the ID
+ * bytes and registers that the structures' types have; then 5 (base address, type 1's ID byte), 6 (type of a structure; a word
+ * wider than a type's field is no type) or 7 (register outside its space); 12 where buf_len is below 112. What is refused
+ * changes no byte.
  */
 uint64_t kpalumere_aspt_write(uint8_t *buf, size_t buf_len, const uint64_t *words, size_t words_len);
 

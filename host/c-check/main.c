@@ -207,23 +207,121 @@ static void check_build_repeated(void)
     expect("the total", 3, words[0]);
 }
 
+/* OEM ID, OEM table ID, revisions and creator, base, pages; structures of types 2, 0 and 1. */
+static const uint64_t aspt_table[22] = {UINT64_C(0x464544434241), UINT64_C(0x4E4D4C4B4A494847), 1, 2, 3, 0xFED00000, 1,
+                                   2, 0, 0xFFC, 0, 0, 0, 0, 0x10, 0x14, 0x18, 1, 1, 0x20, 0x24, 0x28};
+
+/* Writes the table with a word in another's place: the number is this, and what is refused changes no byte. */
+static void expect_written_with(size_t at, uint64_t word, uint64_t number)
+{
+    uint64_t words[22];
+    uint8_t buffer[112], before[112];
+    char what[80];
+
+    memcpy(words, aspt_table, sizeof aspt_table);
+    words[at] = word;
+    memset(buffer, 0xEE, sizeof buffer);
+    memcpy(before, buffer, sizeof buffer);
+    snprintf(what, sizeof what, "the table with 0x%" PRIx64 " as word %u", word, (unsigned)at);
+    expect(what, number, kpalumere_aspt_write(buffer, sizeof buffer, words, 22));
+    expect("a byte is changed where it is accepted", number == 0, memcmp(buffer, before, sizeof buffer) != 0);
+}
+
+/* Words that their fields cannot hold, for every word of the table. */
+static void check_wide_words(void)
+{
+    static const uint64_t wide = UINT64_C(1) << 32;
+    uint64_t words[22];
+    uint8_t buffer[112], plain[112];
+    size_t at;
+
+    /* Before the structures: 48 bits for the OEM ID, 64 for the OEM table ID and the base address, else 32. */
+    expect_written_with(0, (UINT64_C(1) << 48) - 1, 0);
+    expect_written_with(0, UINT64_C(1) << 48, 5);
+    expect_written_with(1, UINT64_MAX, 0);
+    for (at = 2; at <= 4; at++) {
+        expect_written_with(at, wide - 1, 0);
+        expect_written_with(at, wide, 5);
+    }
+    expect_written_with(5, UINT64_MAX - 0xFFF, 0);
+    expect_written_with(6, wide - 1, 0);
+    expect_written_with(6, wide, 5);
+    expect_written_with(6, wide + 1, 5);
+
+    /* A type that its field cannot hold is none, whatever its lower bits are. */
+    for (at = 7; at < 22; at += 5) {
+        expect_written_with(at, 0x10000 + aspt_table[at], 6);
+        expect_written_with(at, wide + aspt_table[at], 6);
+        expect_written_with(at, 0xFFFF, 6);
+    }
+
+    /* The ID byte: in types 2 and 0 no part of the structure. */
+    expect_written_with(8, 0x100, 0);
+    expect_written_with(13, 0x100, 0);
+    expect_written_with(18, 0x100, 5);
+    expect_written_with(18, 0x101, 5);
+
+    /* The registers: type 2 has the first alone. */
+    expect_written_with(9, wide, 5);
+    expect_written_with(10, wide, 0);
+    expect_written_with(11, wide, 0);
+    for (at = 14; at <= 16; at++) {
+        expect_written_with(at, wide, 5);
+        expect_written_with(at + 5, wide, 5);
+    }
+
+    /* Words that are not looked at are not written either. */
+    memcpy(words, aspt_table, sizeof aspt_table);
+    memset(plain, 0, sizeof plain);
+    memset(buffer, 0, sizeof buffer);
+    expect("the table is written", 0, kpalumere_aspt_write(plain, sizeof plain, words, 22));
+    words[8] = words[10] = words[11] = words[13] = UINT64_MAX;
+    expect("so it is with words that its types lack", 0, kpalumere_aspt_write(buffer, sizeof buffer, words, 22));
+    expect("as the same bytes", 0, memcmp(buffer, plain, sizeof buffer) != 0);
+
+    /* A structure of a type that there is not has no field: its type alone is looked at, and in its place. */
+    for (at = 7; at < 22; at += 5) {
+        memcpy(words, aspt_table, sizeof aspt_table);
+        words[at] = 3;
+        words[at + 1] = words[at + 2] = words[at + 3] = words[at + 4] = UINT64_MAX;
+        expect("a type that there is not", 6, kpalumere_aspt_write(buffer, sizeof buffer, words, 22));
+        words[at] = UINT64_MAX;
+        expect("a type that its field cannot hold", 6, kpalumere_aspt_write(buffer, 0, words, 22));
+        words[5] = 1;
+        expect("the base address comes before it", 5, kpalumere_aspt_write(buffer, sizeof buffer, words, 22));
+        words[5] = aspt_table[5];
+        words[6] = wide;
+        expect("and so do words that are too wide", 5, kpalumere_aspt_write(buffer, sizeof buffer, words, 22));
+        expect("but not before their number", 1, kpalumere_aspt_write(buffer, sizeof buffer, words, 21));
+    }
+    memcpy(words, aspt_table, sizeof aspt_table);
+    words[7] = 3;
+    words[19] = wide;
+    expect("words that are too wide come before a type", 5, kpalumere_aspt_write(buffer, sizeof buffer, words, 22));
+
+    /* In a space of 8 GiB a register of 32 bits cannot be outside, and one of 33 has no field. */
+    memcpy(words, aspt_table, sizeof aspt_table);
+    words[6] = 0x200000;
+    words[9] = wide - 1;
+    expect("a register at the end of its field", 0, kpalumere_aspt_write(buffer, sizeof buffer, words, 22));
+    words[9] = wide;
+    expect("a register behind it", 5, kpalumere_aspt_write(buffer, sizeof buffer, words, 22));
+}
+
 static void check_aspt(void)
 {
-    /* OEM ID, OEM table ID, revisions and creator, base, pages; structures of types 2, 0 and 1. */
-    static const uint64_t table[22] = {UINT64_C(0x464544434241), UINT64_C(0x4E4D4C4B4A494847), 1, 2, 3, 0xFED00000, 1,
-                                       2, 0, 0xFFC, 0, 0, 0, 0, 0x10, 0x14, 0x18, 1, 1, 0x20, 0x24, 0x28};
     uint8_t buffer[113];
     uint64_t words[22] = {0};
 
     memset(buffer, 0xEE, sizeof buffer);
-    expect("a table is written", 0, kpalumere_aspt_write(buffer, sizeof buffer, table, 22));
+    expect("a table is written", 0, kpalumere_aspt_write(buffer, sizeof buffer, aspt_table, 22));
     expect("its signature", 0, (uint64_t)(memcmp(buffer, "ASPT", 4) != 0));
     expect("its OEM IDs", 0, (uint64_t)(memcmp(buffer + 10, "ABCDEFGHIJKLMN", 14) != 0));
     expect("the byte behind is kept", 0xEE, buffer[112]);
     expect("it is read back", 0, kpalumere_aspt_read(buffer, sizeof buffer, words, 22));
-    expect("as it was", 0, (uint64_t)(memcmp(words, table, sizeof table) != 0));
-    expect("no room is refused", 12, kpalumere_aspt_write(buffer, 111, table, 22));
-    expect("too few words are refused", 1, kpalumere_aspt_write(buffer, sizeof buffer, table, 21));
+    expect("as it was", 0, (uint64_t)(memcmp(words, aspt_table, sizeof aspt_table) != 0));
+    expect("no room is refused", 12, kpalumere_aspt_write(buffer, 111, aspt_table, 22));
+    expect("too few words are refused", 1, kpalumere_aspt_write(buffer, sizeof buffer, aspt_table, 21));
     buffer[20] ^= 1;
     expect("damage is refused", 4, kpalumere_aspt_read(buffer, sizeof buffer, words, 22));
 }
@@ -287,6 +385,7 @@ int main(void)
     check_build();
     check_build_repeated();
     check_aspt();
+    check_wide_words();
     check_guids();
     check_mailbox();
     puts(failures == 0 ? "a caller in C sees the values of document 01" : "a caller in C sees other values");

@@ -1,1 +1,2 @@
 pub mod AsptTable
+pub mod Taken

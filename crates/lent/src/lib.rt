@@ -1,6 +1,6 @@
-// Lent words: how a call at the boundary hands its values over, and how it knows values that were handed over.
+// Lent words: how a call at the boundary hands its values over.
 ghost use mathlib.Core.Path.{_≡_};
-ghost use Rattle.lent.specs.Lent.{numberFor, wordsFor, begins};
+ghost use Rattle.lent.specs.Lent.{numberFor, wordsFor};
 
 // Writes the values into the lent words, from the first on, and answers the number; 12, and nothing written, where they do not fit.
 pub fn put(words: &mut [u64], number: u64, values: &[u64]) -> u64
@@ -16,21 +16,4 @@ pub fn put(words: &mut [u64], number: u64, values: &[u64]) -> u64
         i += 1;
     }
     number
-}
-
-// Do the words begin with these values?
-pub fn begin_with(words: &[u64], values: &[u64]) -> bool
-    ensures { λ r. ⌜ r ≡ begins (now (values .entry)) (now (words .entry)) ⌝ }
-{
-    let mut i: usize = 0;
-    while i < values.len() {
-        if words.len() <= i {
-            return false;
-        }
-        if words[i] != values[i] {
-            return false;
-        }
-        i += 1;
-    }
-    true
 }

@@ -208,27 +208,100 @@ mod tests {
     }
 
     #[test]
-    fn words_that_are_no_table_are_refused() {
+    fn fewer_words_than_a_table_has_are_refused_and_more_are_ignored() {
         let mut buffer = [0x11; 112];
-        let kept = buffer;
         let words = table().words();
         assert_eq!(kpalumere_aspt_write(&mut buffer, &words[..ALL - 1]), 1);
-        for (at, bits) in [
-            (0, 48),
-            (2, 32),
-            (6, 32),
-            (7, 16),
-            (8, 8),
-            (9, 32),
-            (21, 32),
-        ] {
-            let mut wide = words;
-            wide[at] |= 1 << bits;
-            assert_eq!(kpalumere_aspt_write(&mut buffer, &wide), 5, "word {at}");
-        }
-        assert_eq!(buffer, kept);
+        assert_eq!(buffer, [0x11; 112]);
         let longer = [&words[..], &[7]].concat();
         assert_eq!(kpalumere_aspt_write(&mut buffer, &longer), 0);
         assert_eq!(aspt_read(&buffer), Ok(table()));
+    }
+
+    /// Writes these words: the number is this, and what is refused changes no byte.
+    fn expect_written(words: &[u64; ALL], number: u64, what: &str) {
+        let mut buffer = [0x11; 112];
+        assert_eq!(kpalumere_aspt_write(&mut buffer, words), number, "{what}");
+        assert_eq!(buffer == [0x11; 112], number != 0, "{what}");
+    }
+
+    /// The words of `table`, whose structures have types 1, 2 and 0, with another word in the place of one.
+    fn with(at: usize, word: u64) -> [u64; ALL] {
+        let mut words = table().words();
+        words[at] = word;
+        words
+    }
+
+    #[test]
+    fn a_word_that_its_field_cannot_hold_is_5_where_the_field_is_there() {
+        // Before the structures; any word is an OEM table ID, and any a base address.
+        for (at, bits) in [(0, 48), (2, 32), (3, 32), (4, 32), (6, 32)] {
+            for wide in [1 << bits, u64::MAX, table().words()[at] + (1 << bits)] {
+                expect_written(&with(at, wide), 5, &format!("word {at} of {wide:#x}"));
+            }
+            let held = (1 << bits) - 1;
+            expect_written(&with(at, held), 0, &format!("word {at} of {held:#x}"));
+        }
+        expect_written(&with(1, u64::MAX), 0, "the OEM table ID");
+        expect_written(&with(5, 0xFFFF_FFFF_FFFF_0000), 0, "the base address");
+        // The structures of types 1, 2 and 0: whether they have the ID byte, and how many registers they have.
+        for (at, has_id, registers) in [(7, true, 3), (12, false, 1), (17, false, 3)] {
+            let what = format!("the structure from word {at} on");
+            let id = if has_id { 5 } else { 0 };
+            for wide in [0x100, 0x101, u64::MAX] {
+                expect_written(&with(at + 1, wide), id, &what);
+            }
+            for register in 0..3 {
+                let number = if register < registers { 5 } else { 0 };
+                for wide in [1 << 32, (1 << 32) + 0x10, u64::MAX] {
+                    expect_written(&with(at + 2 + register, wide), number, &what);
+                }
+            }
+        }
+    }
+
+    #[test]
+    fn a_type_that_its_field_cannot_hold_is_none() {
+        for at in [7, 12, 17] {
+            let class = table().words()[at];
+            for wide in [3, 0xFFFF, 0x1_0000 + class, (1 << 32) + class, u64::MAX] {
+                // A structure of no type has no field, so no other word of it is looked at.
+                let mut words = with(at, wide);
+                expect_written(&words, 6, &format!("word {at} of {wide:#x}"));
+                words[at + 1..at + 5].fill(u64::MAX);
+                expect_written(&words, 6, &format!("word {at} of {wide:#x}, wide fields"));
+                // The base address comes before it, and so do words that fields cannot hold; room comes behind.
+                assert_eq!(kpalumere_aspt_write(&mut [], &words), 6);
+                words[5] += 1;
+                expect_written(&words, 5, "the base address");
+                words[5] -= 1;
+                words[2] = 1 << 32;
+                expect_written(&words, 5, "a word before the structures");
+                words[2] = 0;
+                let other = if at == 7 { 19 } else { 9 };
+                words[other] = 1 << 32;
+                expect_written(&words, 5, "a register of another structure");
+            }
+        }
+    }
+
+    #[test]
+    fn a_word_of_a_field_that_the_type_lacks_is_neither_looked_at_nor_written() {
+        let mut words = table().words();
+        for at in [13, 15, 16, 18] {
+            words[at] = u64::MAX;
+        }
+        let mut buffer = [0; 112];
+        assert_eq!(kpalumere_aspt_write(&mut buffer, &words), 0);
+        assert_eq!(aspt_read(&buffer), Ok(table()));
+    }
+
+    #[test]
+    fn a_register_of_33_bits_is_5_in_a_space_that_would_hold_it() {
+        let mut words = with(6, 0x20_0000);
+        words[9] = 0xFFFF_FFFF;
+        expect_written(&words, 0, "the last offset of 32 bits");
+        words[9] = 0x1_0000_0000;
+        expect_written(&words, 5, "the first of 33");
     }
 }
