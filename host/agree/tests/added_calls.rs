@@ -1,10 +1,12 @@
 //! The calls that stand beside document 01's and have no line in the ask language (the EFS, the directory pointer, the entries
-//! that repeat and a firmware binary's version), set side by side: the library by its bindings, and the second program.
+//! that repeat, a firmware binary's version and the entry at an index of a GUID table), set side by side: the library by its
+//! bindings, and the second program.
 
 use agree::board::{entry, Board, LEVEL_TWO};
 use agree::cases;
 use agree::random::Random;
 use agree::subjects::directory::{tell_apart, Directory, Entry, CLASSES, LEAD, SUBPROGRAMS};
+use agree::subjects::guids;
 use bindings::Refusal;
 use std::collections::{BTreeMap, BTreeSet};
 use std::time::{SystemTime, UNIX_EPOCH};
@@ -86,6 +88,22 @@ fn version_by_both(bytes: &[u8]) -> [Told; 2] {
         by_library(bindings::version(bytes), |version| vec![version]),
         by_second(second::version::version(bytes), |version| {
             vec![version.into()]
+        }),
+    ]
+}
+
+fn guid_entry_by_both(image: &[u8], index: usize) -> [Told; 2] {
+    let values = |guid: [u8; 16], place: u64, length: u64| {
+        let mut values: Vec<u64> = guid.iter().map(|byte| (*byte).into()).collect();
+        values.extend([place, length]);
+        values
+    };
+    [
+        by_library(bindings::guid_entry(image, index), |entry| {
+            values(entry.guid.0, entry.place, entry.length)
+        }),
+        by_second(second::guids::entry(image, index), |entry| {
+            values(entry.guid, entry.place as u64, entry.length as u64)
         }),
     ]
 }
@@ -203,6 +221,68 @@ fn both_tell_the_same_version() {
         seen.note(version_by_both(&bytes[..length]), &whence);
     }
     seen.hold(&[0, 1, 2]);
+}
+
+// ---- the entry at an index of a GUID table
+
+/// Holds both to one answer for every index up to two behind the entries, and for indices that are far behind.
+fn note_guid_entries(seen: &mut Seen, image: &[u8], whence: &str) {
+    let entries = bindings::guids(image).map_or(1, |table| table.entries as usize);
+    for index in (0..entries + 2).chain([1 << 16, 1 << 32, usize::MAX]) {
+        let whence = format!("{whence}, index {index}");
+        let answers = guid_entry_by_both(image, index);
+        if bindings::guids(image).is_ok() {
+            let due = if index < entries { 0 } else { Refusal::ABSENT };
+            let number = answers[0].as_ref().err().map_or(0, |(number, _)| *number);
+            assert_eq!(number, due, "library, {whence}");
+        }
+        seen.note(answers, &whence);
+    }
+}
+
+#[test]
+fn both_give_the_same_entries_of_random_guid_tables() {
+    let seed = seed_for("the entries of a GUID table");
+    let mut random = Random::from_seed(seed);
+    let mut seen = Seen::default();
+    for trial in 0..TRIALS {
+        let length = match random.below(40) {
+            0 => 65_535 + 32 + random.below(4),
+            1..=4 => random.one_of(&[0, 1, 32, 48, 49, 50, 51, 67, 68]),
+            _ => 50 + random.below(250),
+        };
+        let image = guids::image(&mut random, length);
+        let whence = format!("seed {seed}, trial {trial}, an image of {length} bytes");
+        note_guid_entries(&mut seen, &image, &whence);
+    }
+    seen.hold(&[0, 1, 2, 3, 6, 8]);
+}
+
+#[test]
+fn both_give_the_same_entries_of_the_largest_guid_table() {
+    // As many entries as a total of 65,535 counts, each with its own number as data.
+    let most = (65_535 - 18) / 20;
+    let mut image = vec![0; 65_535 + 32];
+    assert_eq!(bindings::guid_start(&mut image), Ok(()));
+    for number in 0..most as u16 {
+        let guid = bindings::Guid([number as u8; 16]);
+        let data = number.to_le_bytes();
+        assert!(bindings::guid_extend(&mut image, &guid, &data).is_ok());
+    }
+    for index in [0, 1, most / 2, most - 1] {
+        let entry = bindings::guid_entry(&image, index).expect("an entry at every index below");
+        let place = entry.place as usize;
+        assert_eq!(image[place..place + 2], (index as u16).to_le_bytes());
+        let [library, second] = guid_entry_by_both(&image, index);
+        assert_eq!(library, second, "index {index}");
+    }
+    for index in [most, most + 1, 1 << 32, usize::MAX] {
+        let answers = guid_entry_by_both(&image, index);
+        assert_eq!(
+            answers,
+            [refused(Refusal::ABSENT), refused(Refusal::ABSENT)]
+        );
+    }
 }
 
 // ---- the entries that repeat

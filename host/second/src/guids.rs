@@ -33,11 +33,12 @@ pub struct Found {
     pub tested: u64,
 }
 
-/// One entry of a good table.
-struct Entry {
-    guid: Guid,
-    place: usize,
-    length: usize,
+/// One entry of a good table: its GUID, and its data's place in the image and length.
+#[derive(Clone, Copy, Debug, PartialEq, Eq)]
+pub struct Entry {
+    pub guid: Guid,
+    pub place: usize,
+    pub length: usize,
 }
 
 /// The total, once the image's end is known to hold a table's footer and total.
@@ -102,6 +103,14 @@ pub fn find(image: &[u8], guid: &Guid) -> Result<Found, Refusal> {
         }
     }
     Err(Refusal::not_found(entries.len() as u64))
+}
+
+/// The entry at an index, counted from the footer as a lookup tests them. Without a lookup the 8 carries nothing.
+pub fn entry(image: &[u8], index: usize) -> Result<Entry, Refusal> {
+    // all is checked before any entry is given
+    let (_, entries) = checked_table(image)?;
+    require(index < entries.len(), 8)?;
+    Ok(entries[index])
 }
 
 /// Writes the footer and the total of an empty table, and nothing else.

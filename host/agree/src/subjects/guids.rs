@@ -70,6 +70,14 @@ fn start(random: &mut Random, draft: &mut Draft) -> Table {
 
 /// A table is put into the buffer, mostly a good one.
 fn given(random: &mut Random, draft: &mut Draft, length: u64) -> Table {
+    let (table, bytes) = table_for(random, length);
+    let place = length.saturating_sub(BEHIND) as usize - bytes.len();
+    draft.line(format!("patch a {place} {}", hex(random, &bytes)));
+    table
+}
+
+/// A table for an image, mostly a good one, and its bytes, of which those that do not fit are cut off in front.
+fn table_for(random: &mut Random, length: u64) -> (Table, Vec<u8>) {
     let mut table = Table::random(random, length);
     for _ in 0..random.one_of(&[0, 0, 0, 1, 1, 2]) {
         table.break_one(random, length);
@@ -78,12 +86,18 @@ fn given(random: &mut Random, draft: &mut Draft, length: u64) -> Table {
     if random.once_in(8) {
         scatter(random, &mut bytes);
     }
-    // What does not fit before the image's end is cut off in front.
     let room = length.saturating_sub(BEHIND) as usize;
     let cut = bytes.len().saturating_sub(room);
-    let place = room - (bytes.len() - cut);
-    draft.line(format!("patch a {place} {}", hex(random, &bytes[cut..])));
-    table
+    (table, bytes.split_off(cut))
+}
+
+/// An image that ends with a table, mostly a good one.
+pub fn image(random: &mut Random, length: u64) -> Vec<u8> {
+    let mut image = vec![0; length as usize];
+    let (_, bytes) = table_for(random, length);
+    let end = length.saturating_sub(BEHIND) as usize;
+    image[end - bytes.len()..end].copy_from_slice(&bytes);
+    image
 }
 
 /// One call on a table.

@@ -9,7 +9,7 @@ mod damage;
 pub mod directory;
 mod draft;
 mod flash;
-mod guids;
+pub mod guids;
 mod image;
 mod lines;
 mod mailbox;

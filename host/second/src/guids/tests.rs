@@ -88,6 +88,34 @@ fn source_004_has_three_entries_and_0x5c_bytes() {
 }
 
 #[test]
+fn an_entry_is_counted_from_the_footer_and_behind_the_last_is_8_alone() {
+    let image = source_004(0x5C);
+    for (index, guid, place, length) in [
+        (0, RESET_BLOCK, 0x38, 4),
+        (1, SEV_SECRET, 0x1E, 8),
+        (2, SEV_HASHES, 4, 8),
+    ] {
+        let found = Entry {
+            guid,
+            place,
+            length,
+        };
+        assert_eq!(entry(&image, index), Ok(found));
+    }
+    for index in [3, 4, 1 << 32, usize::MAX] {
+        assert_eq!(number(entry(&image, index)), 8);
+    }
+    assert_eq!(number(entry(&image_with(50, 18), 0)), 8);
+    // a table that is refused, whatever the index
+    for index in [0, 3] {
+        assert_eq!(number(entry(&image[..49], index)), 1);
+        assert_eq!(number(entry(&image[1..0x7F], index)), 2);
+        assert_eq!(number(entry(&source_004(17), index)), 3);
+        assert_eq!(number(entry(&source_004(0x5B), index)), 6);
+    }
+}
+
+#[test]
 fn a_total_of_0x72_is_6_with_zeros_before_and_good_with_a_fourth_entry() {
     let mut image = vec![0; 0x80];
     image.extend(source_004(0x72));
