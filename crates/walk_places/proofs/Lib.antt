@@ -1,0 +1,4 @@
+pub mod Order
+pub mod Leads
+pub mod Answer
+pub mod Lookup
