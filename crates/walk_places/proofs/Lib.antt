@@ -2,3 +2,4 @@ pub mod Order
 pub mod Leads
 pub mod Answer
 pub mod Lookup
+pub mod Wrong
