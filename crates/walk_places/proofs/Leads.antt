@@ -9,7 +9,7 @@ use lib.ListN.{length}
 use lib.Dec.{leb, eqb}
 use Rattle.le.specs.Le.{Bytes}
 use Rattle.reply.specs.Reply.{Reply, Carried, given, refused, alone, check, guard, then}
-use Rattle.reply.proofs.ReplyLaws.{clash, then-given}
+use Rattle.reply.proofs.ReplyLaws.{clash, then-given, then-same}
 use Rattle.window.specs.Window.{fourGiB, windowStart, offsetIn}
 use Rattle.directory.specs.declared.Directory.{Directory}
 use Rattle.directory.specs.Directory.{directoryAt}
@@ -20,6 +20,7 @@ use Rattle.entries.specs.Entry.{entryOf}
 use Rattle.entries.specs.Part.{placeIn, leadsTo}
 use Rattle.entries.specs.Good.{BeginsAt, physical, flash, counted}
 use Rattle.entries.proofs.Parts.{lead-mode}
+use Rattle.entries.proofs.Independent.{leads-same}
 use Rattle.entries.proofs.PartAccept.{lead-fact, lead-given, parts-accepted}
 use Rattle.efs.specs.declared.Rules.{Rules}
 use Rattle.flash.specs.Flash.{levelTwoAt}
@@ -141,6 +142,15 @@ module _ (r : Rules) (s : List ℕ) (o : ℕ) (e : Entry) where
 
   pub level-two : (n : Directory) → levelTwoAt r s o e ≡ given n → n .level ≡ 2
   level-two n q = let t = somewhere n q in acceptance .only (r .kind) (r .limit) 2 s (t .0) n (t .2) .2
+
+-- two images of one length lead to one place, and the directory there decides
+pub two-same : (r : Rules) → r .window ≤ fourGiB → (s t : List ℕ) → length s ≡ length t → (o : ℕ) (e : Entry) → e .mode ≤ 3 →
+    ((place : ℕ) → BeginsAt (r .window) o e place → place ≤ length s → directoryAt (r .kind) (r .limit) 2 s place ≡ directoryAt (r .kind) (r .limit) 2 t place) →
+    levelTwoAt r s o e ≡ levelTwoAt r t o e
+two-same r fits s t long o e m f =
+    then-same (leadsTo (r .window) s o e) (directoryAt (r .kind) (r .limit) 2 s) (directoryAt (r .kind) (r .limit) 2 t)
+    (λ place q. let g = lead-fact (r .window) fits s o e place m q in f place (g .0) (g .1))
+    ∙ ap (λ (x : Reply ℕ). then x (directoryAt (r .kind) (r .limit) 2 t)) (leads-same (r .window) s t long o e)
 
 pub leads-told : LeadsTold
 leads-told r s d i fits bytes =

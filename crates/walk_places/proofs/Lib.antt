@@ -2,4 +2,5 @@ pub mod Order
 pub mod Leads
 pub mod Answer
 pub mod Lookup
+pub mod Independent
 pub mod Wrong

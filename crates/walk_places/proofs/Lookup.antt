@@ -122,7 +122,7 @@ module _ (r : Rules) (s : List ℕ) (d : Directory) (class sub : ℕ) where
       only f q (ended m h) = clash (sym h ∙ q)
 
 module _ (r : Rules) (s : List ℕ) (class sub : ℕ) where
-  look : (x : Reply Directory) → flashDirectory r 1 s ≡ x → findImage r s class sub ≡ then (fromLookup x) (λ d. firstIn (r .kind) s class sub (walkOf 1 r s d) 0)
+  pub look : (x : Reply Directory) → flashDirectory r 1 s ≡ x → findImage r s class sub ≡ then (fromLookup x) (λ d. firstIn (r .kind) s class sub (walkOf 1 r s d) 0)
   look x e = ap (λ (x : Reply Directory). then (fromLookup x) (λ d. firstIn (r .kind) s class sub (walkOf 1 r s d) 0)) e
 
   pub image-answered : (d : Directory) → flashDirectory r 1 s ≡ given d → Answered r s d class sub (findImage r s class sub)

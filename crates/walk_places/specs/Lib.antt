@@ -1,3 +1,4 @@
 pub mod Places
 pub mod Lookup
+pub mod Independent
 pub mod Wrong
