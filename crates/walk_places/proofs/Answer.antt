@@ -1,9 +1,9 @@
 -- The walk comes to the first match, to the first fault, or to its end; and only one of these. Assumes nothing.
 use mathlib.Core.Path.{_≡_, refl, sym, ap, subst, _∙_}
-use mathlib.Core.Logic.{_⊎_, inl, inr}
-use mathlib.Core.List.{List, [], _∷_, _++_}
+use mathlib.Core.Logic.{inl, inr}
+use mathlib.Core.List.{List, _++_}
 use mathlib.Core.Bool.{Bool, true, false, cond}
-use Prim.Native.Nat.{ℕ, zero, suc, _+_, _<_, _≤_}
+use Prim.Native.Nat.{ℕ, zero, suc, _+_, _≤_}
 use native.Mathlib.Numerals.{add-one}
 use native.Mathlib.Omega.{arith}
 use borrow.Author.Tests.{eqb-true, eqb-false}
@@ -12,12 +12,12 @@ use Rattle.reply.specs.Reply.{Reply, Carried, given, refused, tested, then}
 use Rattle.reply.proofs.ReplyLaws.{apart}
 use Rattle.directory.specs.declared.Directory.{Directory}
 use Rattle.entries.specs.Entry.{entryOf, matches}
-use Rattle.entries.specs.Good.{Leads, Matches}
+use Rattle.entries.specs.Good.{Matches}
 use Rattle.entries.proofs.Lowest.{match-says, match-holds}
 use Rattle.efs.specs.declared.Rules.{Rules}
-use Rattle.walk.specs.Walk.{Step, enter, test, fault, walkedBy, entriesFrom, belowOf, walkFrom, walkOf, firstIn}
+use Rattle.walk.specs.Walk.{Step, fault, entriesFrom, belowOf, walkFrom, walkOf, firstIn}
 use Rattle.walk.specs.declared.ImageMatch.{ImageMatch}
-use Rattle.walk_places.specs.Places.{Spot, top, below, outer, inner, levelAt, ledTo, totalOf, Enters, FaultAt, IsIn, MatchAt, Reached, spotsBelow, spotsBefore, spotsTo}
+use Rattle.walk_places.specs.Places.{Spot, top, below, outer, inner, levelAt, ledTo, Enters, FaultAt, IsIn, MatchAt, Reached, totalBelow, totalsBelow, spotsTo}
 use Rattle.walk_places.specs.Lookup.{FirstMatch, FirstFault, Nothing, Answered, matched, faulty, ended}
 use Rattle.walk_places.proofs.Leads.{level-two}
 use Rattle.walk_places.proofs.Order.{Compared, less, equal, more, compared, Ordered, before, same, after, ordered, one-given, no-fault, one-directory, at-start, past-top, past-below, past-entry}
@@ -84,10 +84,10 @@ module _ (r : Rules) (s : List ℕ) (d : Directory) (class sub : ℕ) where
       none (top k) m = let n : m .directory .total ≡ d .total = ap (λ (n : Directory). n .total) (m .is-in .0) in let h = m .is-in .1 in w .unmatched (top k) (omega arith) m
       none (below k l) m = let h = m .is-in .0 .inside in w .unmatched (below k l) (omega arith) m
 
-  -- the spots up to the next entry of level one
-  more-spots : (i : ℕ) → spotsBefore r s d (i + 1) ≡ spotsBefore r s d i + (1 + spotsBelow r s d i)
-  unfolding spotsBefore
-  more-spots i = ap (spotsBefore r s d) (add-one i)
+  -- with one entry of level one more
+  pub more-below : (i : ℕ) → totalsBelow r s d (i + 1) ≡ totalsBelow r s d i + totalBelow r s d i
+  unfolding totalsBelow
+  more-below i = ap (totalsBelow r s d) (add-one i)
 
   -- an entry of a directory, tested: it matches at the spot p, or the walk goes on
   tested-entry : (n : Directory) (p : Spot) (t : ℕ) (rest : Reply ImageMatch) → Reached r s d class sub p → IsIn r s d p n → n .level ≡ levelAt p → t + 1 ≡ spotsTo r s d p →
@@ -104,12 +104,12 @@ module _ (r : Rules) (s : List ℕ) (d : Directory) (class sub : ℕ) where
 
   -- the last m entries of the directory n that entry i of level one leads to, and the steps behind them
   entered : (i : ℕ) (n : Directory) (rest : List Step) → Enters r s d i n →
-      (Reached r s d class sub (top (i + 1)) → Answered r s d class sub (firstIn (r .kind) s class sub rest (spotsBefore r s d i + 1 + n .total))) →
-      (m j t : ℕ) → j + m ≡ n .total → t ≡ spotsBefore r s d i + 1 + j → Reached r s d class sub (below i j) →
+      (Reached r s d class sub (top (i + 1)) → Answered r s d class sub (firstIn (r .kind) s class sub rest (i + totalsBelow r s d i + 1 + n .total))) →
+      (m j t : ℕ) → j + m ≡ n .total → t ≡ i + totalsBelow r s d i + 1 + j → Reached r s d class sub (below i j) →
       Answered r s d class sub (firstIn (r .kind) s class sub (walkFrom 0 r s n m j ++ rest) t)
   unfolding firstIn entriesFrom belowOf
   entered i n rest e next zero j t q c w =
-      let z : spotsBefore r s d i + 1 + n .total ≡ t = omega arith in
+      let z : i + totalsBelow r s d i + 1 + n .total ≡ t = omega arith in
       subst (λ (t : ℕ). Answered r s d class sub (firstIn (r .kind) s class sub rest t)) z
       (next (past-entry r s d class sub i j w past (λ number carried. no-fault r s d i number carried n e)))
     where
@@ -123,27 +123,27 @@ module _ (r : Rules) (s : List ℕ) (d : Directory) (class sub : ℕ) where
       (λ f. entered i n rest e next m (j + 1) (t + 1) (omega arith) (omega arith) (past-below r s d class sub i j n e w f))
 
   -- the last m entries of level one
-  walked : d .level ≡ 1 → (m i t : ℕ) → i + m ≡ d .total → t ≡ spotsBefore r s d i → Reached r s d class sub (top i) →
+  walked : d .level ≡ 1 → (m i t : ℕ) → i + m ≡ d .total → t ≡ i + totalsBelow r s d i → Reached r s d class sub (top i) →
       Answered r s d class sub (firstIn (r .kind) s class sub (walkFrom 1 r s d m i) t)
   unfolding firstIn entriesFrom belowOf
-  walked one zero i t q c w = let e : i ≡ d .total = omega arith in ended (at-end i e w) (ap (λ (n : ℕ). refused 8 (tested n)) (c ∙ ap (spotsBefore r s d) e))
+  walked one zero i t q c w = let e : i ≡ d .total = omega arith in ended (at-end i e w) (ap (λ (n : ℕ). refused 8 (tested n)) (c ∙ ap (λ (i : ℕ). i + totalsBelow r s d i) e))
   walked one (suc m) i t q c w =
       tested-entry d (top i) t _ w (refl, omega arith) one (omega arith)
       (λ f. led (past-top r s d class sub i w f) (eqb (entryOf (r .kind) s d i .class) (r .kind .lead)) refl (ledTo r s d i) refl (walked one m (i + 1)))
     where
       led : Reached r s d class sub (below i 0) → (b : Bool) → eqb (entryOf (r .kind) s d i .class) (r .kind .lead) ≡ b → (x : Reply Directory) → ledTo r s d i ≡ x →
-          ((t : ℕ) → i + 1 + m ≡ d .total → t ≡ spotsBefore r s d (i + 1) → Reached r s d class sub (top (i + 1)) → Answered r s d class sub (firstIn (r .kind) s class sub (walkFrom 1 r s d m (i + 1)) t)) →
+          ((t : ℕ) → i + 1 + m ≡ d .total → t ≡ i + 1 + totalsBelow r s d (i + 1) → Reached r s d class sub (top (i + 1)) → Answered r s d class sub (firstIn (r .kind) s class sub (walkFrom 1 r s d m (i + 1)) t)) →
           Answered r s d class sub (firstIn (r .kind) s class sub (belowOf 1 r s d (entryOf (r .kind) s d i) ++ walkFrom 1 r s d m (i + 1)) (t + 1))
       led v true b (given n) x next =
           let e : Enters r s d i n = record { inside = omega arith; lead = eqb-true _ _ b; directory = x } in
-          let k : spotsBelow r s d i ≡ n .total = rw (b, x) in
-          rw (b, x) (entered i n (walkFrom 1 r s d m (i + 1)) e (next (spotsBefore r s d i + 1 + n .total) (omega arith) (omega (arith, more-spots i))) (n .total) 0 (t + 1) (omega arith) (omega arith) v)
+          let k : totalBelow r s d i ≡ n .total = rw (b, x) in
+          rw (b, x) (entered i n (walkFrom 1 r s d m (i + 1)) e (next (i + totalsBelow r s d i + 1 + n .total) (omega arith) (omega (arith, more-below i))) (n .total) 0 (t + 1) (omega arith) (omega arith) v)
       led v true b (refused number carried) x next =
           rw (b, x) (faulty i number carried (record { reached = v; here = record { inside = omega arith; lead = eqb-true _ _ b; fault = x } }) refl)
       led v false b x y next =
-          let k : spotsBelow r s d i ≡ 0 = rw b in
-          rw b (next (t + 1) (omega arith) (omega (arith, more-spots i)) (past-entry r s d class sub i 0 v (λ l h m. eqb-false _ _ b (m .is-in .0 .lead)) (λ number carried f. eqb-false _ _ b (f .lead))))
+          let k : totalBelow r s d i ≡ 0 = rw b in
+          rw b (next (t + 1) (omega arith) (omega (arith, more-below i)) (past-entry r s d class sub i 0 v (λ l h m. eqb-false _ _ b (m .is-in .0 .lead)) (λ number carried f. eqb-false _ _ b (f .lead))))
 
   pub walk-answered : d .level ≡ 1 → Answered r s d class sub (firstIn (r .kind) s class sub (walkOf 1 r s d) 0)
-  unfolding firstIn spotsBefore
+  unfolding firstIn totalsBelow
   walk-answered one = walked one (d .total) 0 0 (omega arith) refl (at-start r s d class sub)

@@ -6,7 +6,6 @@ use mathlib.Core.Bool.{Bool, true, false, cond, _&&_}
 use Prim.Native.Nat.{ℕ, zero, suc, _+_, _<_, _≤_}
 use native.Mathlib.Omega.{arith}
 use borrow.Author.Tests.{eqb-true}
-use lib.ListN.{length}
 use lib.Dec.{leb, eqb}
 use Rattle.le.specs.Le.{Bytes}
 use Rattle.reply.specs.Reply.{Reply, Carried, given, refused, tested, guard, then}
@@ -14,14 +13,14 @@ use Rattle.reply.proofs.ReplyLaws.{then-given, then-same}
 use Rattle.window.specs.Window.{fourGiB, offsetIn, within}
 use Rattle.window.specs.declared.Offset.{Offset}
 use Rattle.directory.specs.declared.Directory.{Directory}
-use Rattle.directory.specs.Directory.{directoryAt, entryPlace, totalAt}
+use Rattle.directory.specs.Directory.{directoryAt}
 use Rattle.directory.specs.Good.{GoodDirectory}
 use Rattle.directory.specs.Independent.{Agree, endOf}
 use Rattle.directory.proofs.Accept.{acceptance}
 use Rattle.directory.proofs.Independent.{independence}
 use Rattle.entries.specs.declared.Entry.{Entry}
 use Rattle.entries.specs.Entry.{entryOf}
-use Rattle.entries.specs.Good.{Leads, Matches, BeginsAt}
+use Rattle.entries.specs.Good.{Leads, Matches}
 use Rattle.entries.proofs.Accept.{all-entry}
 use Rattle.entries.proofs.Independent.{entries-independence}
 use Rattle.entries.proofs.PartAccept.{parts-accepted}
@@ -30,12 +29,12 @@ use Rattle.efs.specs.Efs.{efsPlace, efsAt, efsIn, pointerTo, pointerOf, pointer
 use Rattle.efs.specs.declared.Efs.{Efs}
 use Rattle.efs.specs.declared.Pointer.{Pointer}
 use Rattle.efs.specs.declared.Rules.{Rules}
-use Rattle.flash.specs.Flash.{levelOne, levelTwoAt, flashDirectory, fromLookup}
+use Rattle.flash.specs.Flash.{levelOne, levelTwoAt, flashDirectory}
 use Rattle.flash.proofs.Ways.{Opened, one, two, opened}
-use Rattle.walk.specs.Walk.{walkOf, firstIn, findImage}
+use Rattle.walk.specs.Walk.{findImage}
 use Rattle.walk.specs.declared.ImageMatch.{ImageMatch}
-use Rattle.walk_places.specs.Places.{Spot, top, below, Earlier, outer, inner, ledTo, totalOf, Enters, FaultAt, IsIn, MatchAt, Reached, spotsBelow, spotsBefore, spotsTo}
-use Rattle.walk_places.specs.Lookup.{FirstMatch, FirstFault, Nothing, Answered, matched, faulty, ended}
+use Rattle.walk_places.specs.Places.{Spot, top, below, Earlier, outer, inner, ledTo, totalOf, Enters, FaultAt, IsIn, MatchAt, Reached, totalBelow, totalsBelow, spotsTo}
+use Rattle.walk_places.specs.Lookup.{Answered, matched, faulty, ended}
 use Rattle.walk_places.specs.Independent.{AgreeAt, SameWalk, ImageIndependence}
 use Rattle.walk_places.proofs.Order.{one-given}
 use Rattle.walk_places.proofs.Leads.{two-same, leads-told}
@@ -189,18 +188,18 @@ module _ (r : Rules) (s t : List ℕ) (class sub : ℕ) (fits : r .window ≤ fo
     }
 
     -- ---- the count
-    spots-same : (i : ℕ) → i ≤ d .total → ((k : ℕ) → k < i → Reached r s d class sub (below k 0)) → spotsBefore r s d i ≡ spotsBefore r t d i
-    unfolding spotsBefore
-    spots-same zero h w = refl
-    spots-same (suc i) h w =
-        let b : spotsBelow r s d i ≡ spotsBelow r t d i =
+    totals-same : (i : ℕ) → i ≤ d .total → ((k : ℕ) → k < i → Reached r s d class sub (below k 0)) → totalsBelow r s d i ≡ totalsBelow r t d i
+    unfolding totalsBelow
+    totals-same zero h w = refl
+    totals-same (suc i) h w =
+        let b : totalBelow r s d i ≡ totalBelow r t d i =
         choose-same (eqb (entryOf (r .kind) s d i .class) (r .kind .lead)) _ _ (λ q. ap totalOf (led-same i (omega arith) (eqb-true _ _ q) (w i (omega arith))))
         ∙ ap (λ (e : Entry). cond (eqb (e .class) (r .kind .lead)) (totalOf (ledTo r t d i)) 0) (entry-same i (omega arith)) in
-        omega (arith, spots-same i (omega arith) (λ k g. w k (omega arith)))
+        omega (arith, totals-same i (omega arith) (λ k g. w k (omega arith)))
 
     to-same : (p : Spot) → Reached r s d class sub p → outer p < d .total → spotsTo r s d p ≡ spotsTo r t d p
-    to-same (top i) w h = omega (arith, spots-same i (omega arith) (λ k g. reached-below r s d class sub (top i) w k g))
-    to-same (below i j) w h = omega (arith, spots-same i (omega arith) (λ k g. reached-below r s d class sub (below i j) w k (omega arith)))
+    to-same (top i) w h = omega (arith, totals-same i (omega arith) (λ k g. reached-below r s d class sub (top i) w k g))
+    to-same (below i j) w h = omega (arith, totals-same i (omega arith) (λ k g. reached-below r s d class sub (below i j) w k (omega arith)))
 
     inside-one : (p : Spot) (m : MatchAt r s d class sub p) → outer p < d .total
     inside-one (top i) m = let n : m .directory .total ≡ d .total = ap (λ (n : Directory). n .total) (m .is-in .0) in let h = m .is-in .1 in omega arith
@@ -224,7 +223,7 @@ module _ (r : Rules) (s t : List ℕ) (class sub : ℕ) (fits : r .window ≤ fo
         faulty i number carried (record { reached = reached-on (below i 0) (f .reached); here = fault-on i number carried (f .reached) (f .here) }) e
     answered-same a (ended n e) =
         ended (record { unmatched = none; sound = λ k number carried f. n .sound k number carried (fault-back k number carried (reached (below k 0)) f) })
-        (e ∙ ap (λ (n : ℕ). refused 8 (tested n)) (spots-same (d .total) (omega arith) (λ k g. reached (below k 0))))
+        (e ∙ ap (λ (n : ℕ). refused 8 (tested (d .total + n))) (totals-same (d .total) (omega arith) (λ k g. reached (below k 0))))
       where
         reached : (p : Spot) → Reached r s d class sub p
         reached p = record { unmatched = λ q g. n .unmatched q; sound = λ k number carried g. n .sound k number carried }

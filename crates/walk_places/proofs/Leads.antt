@@ -1,14 +1,13 @@
 -- Where a lead leads, told by the bytes. Assumes nothing.
 use mathlib.Core.Path.{_≡_, refl, sym, ap, subst, _∙_}
 use mathlib.Core.List.{List}
-use mathlib.Core.Bool.{Bool, true, false, not, cond}
+use mathlib.Core.Bool.{Bool, true, false, cond}
 use Prim.Native.Nat.{ℕ, _+_, _<_, _≤_}
 use native.Mathlib.Omega.{arith}
 use borrow.Author.Tests.{eqb-true, eqb-false, ne-eqb}
 use lib.ListN.{length}
 use lib.Dec.{leb, eqb}
-use Rattle.le.specs.Le.{Bytes}
-use Rattle.reply.specs.Reply.{Reply, Carried, given, refused, alone, check, guard, then}
+use Rattle.reply.specs.Reply.{Reply, Carried, given, refused, alone, guard, then}
 use Rattle.reply.proofs.ReplyLaws.{clash, then-given, then-same}
 use Rattle.window.specs.Window.{fourGiB, windowStart, offsetIn}
 use Rattle.directory.specs.declared.Directory.{Directory}
@@ -18,15 +17,14 @@ use Rattle.directory.proofs.Accept.{acceptance}
 use Rattle.entries.specs.declared.Entry.{Entry}
 use Rattle.entries.specs.Entry.{entryOf}
 use Rattle.entries.specs.Part.{placeIn, leadsTo}
-use Rattle.entries.specs.Good.{BeginsAt, physical, flash, counted}
+use Rattle.entries.specs.Good.{BeginsAt}
 use Rattle.entries.proofs.Parts.{lead-mode}
 use Rattle.entries.proofs.Independent.{leads-same}
 use Rattle.entries.proofs.PartAccept.{lead-fact, lead-given, parts-accepted}
 use Rattle.efs.specs.declared.Rules.{Rules}
 use Rattle.flash.specs.Flash.{levelTwoAt}
-use Rattle.walk.proofs.Alone.{Alone, level-alone}
-use Rattle.walk_places.specs.Places.{ledTo}
-use Rattle.walk_places.specs.Lookup.{WhyFault, no-mode, outside, bad-directory, LeadTold, LeadsTold}
+use Rattle.walk.proofs.Alone.{level-alone}
+use Rattle.walk_places.specs.Lookup.{WhyFault, no-mode, outside, bad-directory, LeadsTold}
 use Rattle.walk_places.proofs.Order.{Compared, less, equal, more, compared}
 
 -- ---- if refused, then with 7

@@ -2,10 +2,10 @@
 use mathlib.Core.Path.{_≡_, refl, sym, ap, subst, _∙_}
 use mathlib.Core.Logic.{inr}
 use mathlib.Core.List.{List}
-use mathlib.Core.Bool.{Bool, true, false, cond}
+use mathlib.Core.Bool.{Bool, true, false}
 use Prim.Native.Nat.{ℕ, zero, suc, _+_, _<_, _≤_}
 use native.Mathlib.Omega.{arith}
-use borrow.Author.Tests.{eqb-true, eqb-false, ne-eqb}
+use borrow.Author.Tests.{eqb-true, eqb-false, eq-eqb, ne-eqb}
 use lib.Dec.{eqb}
 use Rattle.reply.specs.Reply.{Reply, Carried, given, refused, tested, then}
 use Rattle.reply.specs.Scan.{Lowest, None}
@@ -14,18 +14,18 @@ use Rattle.directory.specs.declared.Directory.{Directory}
 use Rattle.directory.specs.Directory.{directoryAt}
 use Rattle.directory.proofs.Accept.{acceptance}
 use Rattle.entries.specs.declared.Match.{Match}
-use Rattle.entries.specs.Entry.{entryOf, findIn}
+use Rattle.entries.specs.Entry.{findIn}
 use Rattle.entries.specs.Good.{Leads, Matches}
 use Rattle.entries.proofs.Lowest.{lowest-match}
 use Rattle.efs.specs.declared.Rules.{Rules}
 use Rattle.efs.specs.Efs.{pointerIn}
-use Rattle.flash.specs.Flash.{flashDirectory, fromLookup, flashFind}
+use Rattle.flash.specs.Flash.{flashDirectory, fromLookup}
 use Rattle.flash.proofs.Ways.{Opened, one, two, opened}
 use Rattle.walk.specs.Walk.{walkOf, firstIn, findImage}
 use Rattle.walk.specs.declared.ImageMatch.{ImageMatch}
-use Rattle.walk_places.specs.Places.{Spot, top, below, Earlier, inner, FaultAt, MatchAt, spotsBelow, spotsBefore}
-use Rattle.walk_places.specs.Lookup.{Find, FirstMatch, FirstFault, Nothing, Answered, matched, faulty, ended, inLevelOne, Answers, Lookup, ImageLookupByPlaces}
-use Rattle.walk_places.proofs.Answer.{one-answer, walk-answered}
+use Rattle.walk_places.specs.Places.{Spot, top, below, Earlier, inner, FaultAt, MatchAt, totalBelow, totalsBelow, totalsTo}
+use Rattle.walk_places.specs.Lookup.{Find, FirstMatch, Answered, matched, faulty, ended, inLevelOne, Answers, Lookup, ImageLookupByPlaces}
+use Rattle.walk_places.proofs.Answer.{one-answer, more-below, walk-answered}
 
 -- level one is of level one
 level-one : (r : Rules) (s : List ℕ) (d : Directory) → flashDirectory r 1 s ≡ given d → d .level ≡ 1
@@ -60,14 +60,29 @@ module _ (r : Rules) (s : List ℕ) (d : Directory) (class sub : ℕ) where
           let g = m .match .is-in .1 in
           m .reached .unmatched (below i j) (inr (refl, h)) (record { directory = m .match .directory; is-in = (m .match .is-in .0, omega arith); here = q })
 
+  -- ---- its count is at most the sum of the totals of the directories entered
+  bound-at : (p : Spot) (f : ImageMatch) → FirstMatch r s d class sub p f → f .tested ≤ totalsTo r s d p
+  bound-at (top i) f m =
+      let c = m .count in
+      let n : m .match .directory .total ≡ d .total = ap (λ (n : Directory). n .total) (m .match .is-in .0) in
+      let h = m .match .is-in .1 in
+      omega arith
+  bound-at (below i j) f m =
+      let c = m .count in
+      let e = m .match .is-in .0 in
+      let b : totalBelow r s d i ≡ m .match .directory .total = rw (eq-eqb _ _ (e .lead), e .directory) in
+      let h = m .match .is-in .1 in
+      let g = e .inside in
+      omega (arith, more-below r s d class sub i)
+
   -- ---- without a lead in level one
   module _ (no : None (Leads (r .kind) s d) (d .total)) where
-    plain-spots : (i : ℕ) → i ≤ d .total → spotsBefore r s d i ≡ i
-    unfolding spotsBefore
-    plain-spots zero h = refl
-    plain-spots (suc i) h =
-        let k : spotsBelow r s d i ≡ 0 = rw (ne-eqb _ _ (no i (omega arith))) in
-        omega (arith, plain-spots i (omega arith))
+    none-below : (i : ℕ) → i ≤ d .total → totalsBelow r s d i ≡ 0
+    unfolding totalsBelow
+    none-below zero h = refl
+    none-below (suc i) h =
+        let k : totalBelow r s d i ≡ 0 = rw (ne-eqb _ _ (no i (omega arith))) in
+        omega (arith, none-below i (omega arith))
 
     no-below : (i j : ℕ) → MatchAt r s d class sub (below i j) → ⊥
     no-below i j m = no i (m .is-in .0 .inside) (m .is-in .0 .lead)
@@ -87,7 +102,7 @@ module _ (r : Rules) (s : List ℕ) (d : Directory) (class sub : ℕ) where
           place = refl;
           level = refl;
           index = refl;
-          count = let c = l .1 in omega (arith, plain-spots i (omega arith));
+          count = let c = l .1 in omega (arith, none-below i (omega arith));
         }) refl
       where
         earlier : (i : ℕ) → ((j : ℕ) → j < i → Matches (r .kind) s d class sub j → ⊥) → (q : Spot) → Earlier q (top i) → MatchAt r s d class sub q → ⊥
@@ -95,8 +110,8 @@ module _ (r : Rules) (s : List ℕ) (d : Directory) (class sub : ℕ) where
         earlier i f (below k l) h m = no-below k l m
     in-one (refused number carried) e =
         let f = lowest-match .absent-only (r .kind) s d class sub number carried e in
-        let x = plain-spots (d .total) (omega arith) in
-        ended (record { unmatched = none (f .0); sound = no-faults }) (rw (f .1, f .2, x))
+        let x : d .total ≡ d .total + totalsBelow r s d (d .total) = omega (arith, none-below (d .total) (omega arith)) in
+        ended (record { unmatched = none (f .0); sound = no-faults }) (rw (f .1, f .2) (ap (λ (n : ℕ). refused 8 (tested n)) x))
       where
         none : None (Matches (r .kind) s d class sub) (d .total) → (p : Spot) → MatchAt r s d class sub p → ⊥
         none f (top k) m =
@@ -158,4 +173,5 @@ image-lookup-by-places = record {
   holds = holds;
   settles = λ find w. settles find findImage w holds;
   lowest = lowest-at;
+  bound = bound-at;
 }

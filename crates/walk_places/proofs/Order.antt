@@ -1,16 +1,16 @@
 -- The order of spots, and how the walk comes from one spot to the next. Assumes nothing.
 use mathlib.Core.Path.{_≡_, refl, sym, ap, ap₂, subst, _∙_}
-use mathlib.Core.Logic.{_⊎_, inl, inr}
+use mathlib.Core.Logic.{inl, inr}
 use mathlib.Core.List.{List}
 use mathlib.Core.Bool.{Bool, true, false}
 use Prim.Native.Nat.{ℕ, _+_, _<_, _≤_}
 use native.Mathlib.Omega.{arith}
 use borrow.Author.Tests.{ltb-true, ltb-false}
 use lib.Dec.{ltb}
-use Rattle.reply.specs.Reply.{Reply, Carried, given, refused}
+use Rattle.reply.specs.Reply.{Reply, Carried, given}
 use Rattle.reply.proofs.ReplyLaws.{clash}
 use Rattle.directory.specs.declared.Directory.{Directory}
-use Rattle.entries.specs.Good.{Leads, Matches}
+use Rattle.entries.specs.Good.{Matches}
 use Rattle.efs.specs.declared.Rules.{Rules}
 use Rattle.walk_places.specs.Places.{Spot, top, below, Earlier, Enters, FaultAt, IsIn, MatchAt, Reached}
 

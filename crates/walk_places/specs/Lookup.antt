@@ -18,7 +18,7 @@ use Rattle.efs.specs.declared.Rules.{Rules}
 use Rattle.flash.specs.Flash.{flashDirectory, flashFind}
 use Rattle.walk.specs.Walk.{findImage}
 use Rattle.walk.specs.declared.ImageMatch.{ImageMatch}
-use Rattle.walk_places.specs.Places.{Spot, top, below, Earlier, inner, levelAt, ledTo, Enters, FaultAt, IsIn, MatchAt, Reached, spotsBefore, spotsTo}
+use Rattle.walk_places.specs.Places.{Spot, below, inner, levelAt, ledTo, FaultAt, MatchAt, Reached, spotsTo, allSpots, totalsTo}
 
 -- a lookup in the whole image
 abbrev pub Find : Type 0
@@ -47,7 +47,7 @@ pub record Nothing (r : Rules) (image : List ℕ) (d : Directory) (class sub : �
 pub data Answered (r : Rules) (image : List ℕ) (d : Directory) (class sub : ℕ) (answer : Reply ImageMatch) : Type 0 where
   matched : (p : Spot) (f : ImageMatch) → FirstMatch r image d class sub p f → answer ≡ given f → Answered r image d class sub answer
   faulty : (i number : ℕ) (carried : Carried) → FirstFault r image d class sub i number carried → answer ≡ refused number carried → Answered r image d class sub answer
-  ended : Nothing r image d class sub → answer ≡ refused 8 (tested (spotsBefore r image d (d .total))) → Answered r image d class sub answer
+  ended : Nothing r image d class sub → answer ≡ refused 8 (tested (allSpots r image d)) → Answered r image d class sub answer
 
 -- a match of a lookup in level one, as one of the lookup in the whole image
 abbrev pub inLevelOne : Directory → Reply Match → Reply ImageMatch
@@ -62,7 +62,7 @@ pub record Answers (find : Find) (r : Rules) (image : List ℕ) (class sub : ℕ
   -- the first fault before a match is the answer
   pub fault : (i number : ℕ) (carried : Carried) → FirstFault r image d class sub i number carried → find r image class sub ≡ refused number carried
   -- where there is neither, 8 with the count of all spots
-  pub absent : Nothing r image d class sub → find r image class sub ≡ refused 8 (tested (spotsBefore r image d (d .total)))
+  pub absent : Nothing r image d class sub → find r image class sub ≡ refused 8 (tested (allSpots r image d))
   -- there is no other case
   pub answered : Answered r image d class sub (find r image class sub)
   -- without a lead in level one it is the lookup in level one
@@ -82,6 +82,8 @@ pub record ImageLookupByPlaces : Type 0 where
   -- in its own directory the first match is the lowest
   pub lowest : (r : Rules) (image : List ℕ) (d : Directory) (class sub : ℕ) (p : Spot) (f : ImageMatch) (m : FirstMatch r image d class sub p f) →
       Lowest (Matches (r .kind) image (m .match .directory) class sub) (m .match .directory .total) (f .index)
+  -- its count is at most the sum of the totals of the directories entered
+  pub bound : (r : Rules) (image : List ℕ) (d : Directory) (class sub : ℕ) (p : Spot) (f : ImageMatch) → FirstMatch r image d class sub p f → f .tested ≤ totalsTo r image d p
 
 -- ---- where a lead leads, told by the bytes
 -- why what entry e of a directory at o leads to is refused, and with which number

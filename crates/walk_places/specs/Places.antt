@@ -77,16 +77,25 @@ abbrev pub totalOf : Reply Directory → ℕ
 totalOf (given n) = n .total
 totalOf (refused number carried) = 0
 
--- below entry i of level one: the total of the directory that it leads to, 0 where it is no lead
-abbrev pub spotsBelow : Rules → (image : List ℕ) → (d : Directory) → (i : ℕ) → ℕ
-spotsBelow r image d i = cond (eqb (entryOf (r .kind) image d i .class) (r .kind .lead)) (totalOf (ledTo r image d i)) 0
+-- the total of the directory that entry i of level one leads to: 0 where it leads to none
+abbrev pub totalBelow : Rules → (image : List ℕ) → (d : Directory) → (i : ℕ) → ℕ
+totalBelow r image d i = cond (eqb (entryOf (r .kind) image d i .class) (r .kind .lead)) (totalOf (ledTo r image d i)) 0
 
--- at and below the first i entries of level one
-unfoldable pub spotsBefore : Rules → (image : List ℕ) → (d : Directory) → (i : ℕ) → ℕ
-spotsBefore r image d zero = 0
-spotsBefore r image d (suc i) = spotsBefore r image d i + (1 + spotsBelow r image d i)
+-- the sum of these for the first i entries
+unfoldable pub totalsBelow : Rules → (image : List ℕ) → (d : Directory) → (i : ℕ) → ℕ
+totalsBelow r image d zero = 0
+totalsBelow r image d (suc i) = totalsBelow r image d i + totalBelow r image d i
 
--- up to the spot p and with it
+-- the spots up to p and with it: entries of level one, the directories entered before, and those of its own directory
 abbrev pub spotsTo : Rules → (image : List ℕ) → (d : Directory) → Spot → ℕ
-spotsTo r image d (top i) = spotsBefore r image d i + 1
-spotsTo r image d (below i j) = spotsBefore r image d i + 1 + (j + 1)
+spotsTo r image d (top i) = i + totalsBelow r image d i + 1
+spotsTo r image d (below i j) = i + 1 + totalsBelow r image d i + (j + 1)
+
+-- all spots: the sum of the totals of all directories, each time that an entry leads to it
+abbrev pub allSpots : Rules → (image : List ℕ) → (d : Directory) → ℕ
+allSpots r image d = d .total + totalsBelow r image d (d .total)
+
+-- the sum of the totals of the directories entered up to the spot p, each time entered
+abbrev pub totalsTo : Rules → (image : List ℕ) → (d : Directory) → Spot → ℕ
+totalsTo r image d (top i) = d .total + totalsBelow r image d i
+totalsTo r image d (below i j) = d .total + totalsBelow r image d (i + 1)

@@ -3,7 +3,7 @@ use Prim.Native.Nat.{ℕ, zero, suc, _+_}
 use mathlib.Core.List.{List, [], _∷_, _++_}
 use mathlib.Core.Bool.{cond}
 use lib.Dec.{eqb}
-use Rattle.reply.specs.Reply.{Reply, given, refused, tested, then}
+use Rattle.reply.specs.Reply.{given, refused, tested, then}
 use Rattle.directory.specs.declared.Kind.{Kind}
 use Rattle.directory.specs.declared.Directory.{Directory}
 use Rattle.entries.specs.declared.Entry.{Entry}
