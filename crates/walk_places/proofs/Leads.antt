@@ -24,7 +24,7 @@ use Rattle.entries.proofs.PartAccept.{lead-fact, lead-given, parts-accepted}
 use Rattle.efs.specs.declared.Rules.{Rules}
 use Rattle.flash.specs.Flash.{levelTwoAt}
 use Rattle.walk.proofs.Alone.{level-alone}
-use Rattle.walk_places.specs.Lookup.{WhyFault, no-mode, outside, bad-directory, LeadsTold}
+use Rattle.walk_places.specs.Leads.{WhyFault, no-mode, outside, bad-directory, LeadsTold}
 use Rattle.walk_places.proofs.Order.{Compared, less, equal, more, compared}
 
 -- ---- if refused, then with 7

@@ -1,4 +1,5 @@
 pub mod Places
+pub mod Leads
 pub mod Lookup
 pub mod Independent
 pub mod Wrong

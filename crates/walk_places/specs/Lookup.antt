@@ -1,24 +1,17 @@
 -- What the lookup in the whole image answers, told by places. Assumes nothing: these are statements.
-use Prim.Native.Nat.{ℕ, _<_, _≤_}
+use Prim.Native.Nat.{ℕ, _≤_}
 use mathlib.Core.Path.{_≡_}
 use mathlib.Core.List.{List}
-use lib.ListN.{length}
-use Rattle.le.specs.Le.{Bytes}
-use Rattle.reply.specs.Reply.{Reply, Carried, given, refused, alone, tested}
+use Rattle.reply.specs.Reply.{Reply, Carried, given, refused, tested}
 use Rattle.reply.specs.Scan.{Lowest, None}
-use Rattle.window.specs.Window.{fourGiB}
 use Rattle.directory.specs.declared.Directory.{Directory}
-use Rattle.directory.specs.Directory.{directoryAt}
-use Rattle.directory.specs.Good.{GoodDirectory}
-use Rattle.entries.specs.declared.Entry.{Entry}
 use Rattle.entries.specs.declared.Match.{Match}
-use Rattle.entries.specs.Entry.{entryOf}
-use Rattle.entries.specs.Good.{Leads, Matches, BeginsAt}
+use Rattle.entries.specs.Good.{Leads, Matches}
 use Rattle.efs.specs.declared.Rules.{Rules}
 use Rattle.flash.specs.Flash.{flashDirectory, flashFind}
 use Rattle.walk.specs.Walk.{findImage}
 use Rattle.walk.specs.declared.ImageMatch.{ImageMatch}
-use Rattle.walk_places.specs.Places.{Spot, below, inner, levelAt, ledTo, FaultAt, MatchAt, Reached, spotsTo, allSpots, totalsTo}
+use Rattle.walk_places.specs.Places.{Spot, below, inner, levelAt, FaultAt, MatchAt, Reached, spotsTo, allSpots, totalsTo}
 
 -- a lookup in the whole image
 abbrev pub Find : Type 0
@@ -84,27 +77,3 @@ pub record ImageLookupByPlaces : Type 0 where
       Lowest (Matches (r .kind) image (m .match .directory) class sub) (m .match .directory .total) (f .index)
   -- its count is at most the sum of the totals of the directories entered
   pub bound : (r : Rules) (image : List ℕ) (d : Directory) (class sub : ℕ) (p : Spot) (f : ImageMatch) → FirstMatch r image d class sub p f → f .tested ≤ totalsTo r image d p
-
--- ---- where a lead leads, told by the bytes
--- why what entry e of a directory at o leads to is refused, and with which number
-pub data WhyFault (r : Rules) (image : List ℕ) (o : ℕ) (e : Entry) (number : ℕ) : Type 0 where
-  -- mode 3: 16
-  no-mode : e .mode ≡ 3 → number ≡ 16 → WhyFault r image o e number
-  -- it begins nowhere, or beyond the image: 7
-  outside : (e .mode ≡ 3 → ⊥) → ((place : ℕ) → BeginsAt (r .window) o e place → length image < place) → number ≡ 7 → WhyFault r image o e number
-  -- it begins within the image, where no directory of level two is good: the number of its checks
-  bad-directory : (place : ℕ) → BeginsAt (r .window) o e place → place ≤ length image → directoryAt (r .kind) (r .limit) 2 image place ≡ refused number alone → WhyFault r image o e number
-
--- of an entry of an image of bytes, by rules with a window that fits below 4 GiB
-pub record LeadTold (r : Rules) (image : List ℕ) (d : Directory) (i : ℕ) : Type 0 where
-  -- it leads to a directory exactly where that is good and begins where the location says
-  pub given-only : (n : Directory) → ledTo r image d i ≡ given n →
-      BeginsAt (r .window) (d .place .0) (entryOf (r .kind) image d i) (n .place .0) × GoodDirectory (r .kind) (r .limit) image n × (n .level ≡ 2)
-  pub given-all : (n : Directory) → BeginsAt (r .window) (d .place .0) (entryOf (r .kind) image d i) (n .place .0) → GoodDirectory (r .kind) (r .limit) image n → n .level ≡ 2 →
-      ledTo r image d i ≡ given n
-  -- it is refused exactly for a reason, with that number alone
-  pub refused-only : (number : ℕ) (carried : Carried) → ledTo r image d i ≡ refused number carried → WhyFault r image (d .place .0) (entryOf (r .kind) image d i) number × (carried ≡ alone)
-  pub refused-all : (number : ℕ) → WhyFault r image (d .place .0) (entryOf (r .kind) image d i) number → ledTo r image d i ≡ refused number alone
-
-abbrev pub LeadsTold : Type 0
-LeadsTold = (r : Rules) (image : List ℕ) (d : Directory) (i : ℕ) → r .window ≤ fourGiB → Bytes image → LeadTold r image d i
