@@ -9,6 +9,7 @@ use Rattle.directory.specs.Directory.{directoryAt, directoryByCookie}
 use Rattle.entries.specs.Part.{leadsTo, partWithin, partOf}
 use Rattle.efs.specs.Efs.{candidateAt, pointerTo, pointerOf}
 use Rattle.flash.specs.Flash.{flashDirectory}
+use Rattle.walk.specs.Walk.{entriesFrom, belowOf, firstIn}
 use Rattle.place.specs.Place.{checkAt}
 use Rattle.build.specs.Write.{entryBytes, startOf, roomFor}
 use Rattle.aspt.specs.Rules.{sumOf, fresh, idFits, registersFit, structureChecks, structuresChecks}
@@ -24,11 +25,13 @@ use Rattle.mailbox_calls.specs.Calls.{postOf, loadOf, turnOf, unloadOf, takeOf}
 use Rattle.values.specs.Orders.{Orders}
 
 pub orders : Orders
-unfolding leAt leBytes putBytes wordsAt wordSum weightedOf fletcherOf offsetIn scan someBelow directoryAt directoryByCookie leadsTo partWithin partOf candidateAt pointerTo pointerOf flashDirectory checkAt entryBytes startOf roomFor bytesOf sumOf fresh idFits registersFit structureChecks structuresChecks reservedZero ownOf structureBytes bytesWith tableBytes headerChecks tableOf readOf admitOf writeOf footer headerOf lengthBefore entriesIn guidStartOf allZero guidRoomFor wordOf settledOf deliveryOf ruleOf postsFit registerFits timesIn registerHolds allBelow consistentOf postOf loadOf turnOf unloadOf takeOf
+unfolding leAt leBytes putBytes wordsAt wordSum weightedOf fletcherOf offsetIn scan someBelow directoryAt directoryByCookie leadsTo partWithin partOf candidateAt pointerTo pointerOf flashDirectory entriesFrom belowOf firstIn checkAt entryBytes startOf roomFor bytesOf sumOf fresh idFits registersFit structureChecks structuresChecks reservedZero ownOf structureBytes bytesWith tableBytes headerChecks tableOf readOf admitOf writeOf footer headerOf lengthBefore entriesIn guidStartOf allZero guidRoomFor wordOf deliveryOf ruleOf postsFit registerFits timesIn registerHolds allBelow consistentOf postOf takeOf
 orders = record {
   directory = refl;
   limit = refl;
   flash = refl;
+  find = refl;
+  find-image = refl;
   part = refl;
   place = refl;
   start = refl;

@@ -7,7 +7,8 @@ use Rattle.lent.specs.Lent.{numberOf}
 use Rattle.window.specs.Window.{baseWindow}
 use Rattle.directory.specs.Directory.{pspKind, directoryOf, directoryAt}
 use Rattle.entries.specs.Part.{partIn}
-use Rattle.flash.specs.Flash.{flashDirectory}
+use Rattle.flash.specs.Flash.{flashDirectory, flashFind}
+use Rattle.walk.specs.Walk.{findImage}
 use Rattle.place.specs.Place.{checkAt}
 use Rattle.build.specs.Write.{entryBytes, startOf, extendOf, roomFor}
 use Rattle.aspt.specs.Calls.{readOf}
@@ -18,6 +19,7 @@ use Rattle.firmware.specs.Word.{statusIn}
 use Rattle.firmware.specs.Rules.{runOf}
 use Rattle.mailbox_calls.specs.Calls.{postOf, loadOf, turnOf, unloadOf, takeOf}
 use Rattle.values.specs.Images.{Row, zeros, atTheStart, directoryRows, limitRows, flashRows, partRows, placeRows, startRows, extendRows, roomRows}
+use Rattle.values.specs.Lookups.{Sought, findRows, findImageRows}
 use Rattle.values.specs.Tables.{readRows, writeRows, guidRows, guidStartRows, guidRoomRows}
 use Rattle.values.specs.Mailboxes.{consistentRows, postRows, takeRows, stepNumber, loadRows, turnRows, unloadRows, statusRows}
 
@@ -25,10 +27,16 @@ use Rattle.values.specs.Mailboxes.{consistentRows, postRows, takeRows, s
 abbrev pub Right : {A : Type 0} → (A → ℕ) → List (Row A) → Type 0
 Right answered rows = map (λ r. answered (r .input)) rows ≡ map (λ r. r .number) rows
 
+-- every lookup has the answer that is due, with its count
+abbrev pub Answered : {A B : Type 0} → (A → B) → List (Sought A B) → Type 0
+Answered answer rows = map (λ r. answer (r .input)) rows ≡ map (λ r. r .due) rows
+
 pub record Orders : Type 0 where
   pub directory : Right (λ s. numberOf (directoryAt pspKind 512 2 s 0)) directoryRows
   pub limit : Right (λ s. numberOf (directoryAt pspKind 1 2 s 0)) limitRows
   pub flash : Right (λ a. numberOf (flashDirectory atTheStart (a .0) (a .1))) flashRows
+  pub find : Answered (λ a. flashFind atTheStart (a .0) (a .1) (a .2) 0) findRows
+  pub find-image : Answered (λ a. findImage atTheStart (a .0) (a .1) (a .2)) findImageRows
   pub part : Right (λ a. numberOf (partIn pspKind baseWindow (zeros 16 ++ (entryBytes (a .1) ++ entryBytes (a .1))) (directoryOf 0 1 1) (a .0))) partRows
   pub place : Right (λ a. numberOf (checkAt atTheStart (a .0) (a .1))) placeRows
   pub start : Right (λ a. numberOf (startOf (a .0) (a .1))) startRows
