@@ -57,7 +57,7 @@ findRows =
 abbrev pub inImage : (place level index count : ℕ) → Reply ImageMatch
 inImage place level index count = given (record { place = record { 0 = place }; level = level; index = index; tested = count })
 
--- a lead to level two at 84, then type 1
+-- a lead, then type 1
 abbrev pub leadThenOne : (mode location : ℕ) → List ℕ
 leadThenOne mode location = oneWith 2 (lead 0 mode location ++ plain 1)
 
