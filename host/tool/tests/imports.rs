@@ -21,7 +21,7 @@ struct Token<'a> {
 }
 
 /// The words and signs of a source file, without its comments. `::` is one sign.
-fn tokens_of(text: &str) -> Vec<Token> {
+fn tokens_of(text: &str) -> Vec<Token<'_>> {
     let is_word = |c: char| c.is_alphanumeric() || c == '_';
     let mut tokens = Vec::new();
     for (line, text) in (1..).zip(text.lines()) {
