@@ -17,7 +17,7 @@ use Rattle.entries.specs.Good.{Matches}
 use Rattle.directory.specs.declared.Directory.{Directory}
 use Rattle.reply.proofs.SomeLaws.{none-below, some-false}
 use Rattle.entries.proofs.Lowest.{match-says, match-holds}
-use Rattle.directory.proofs.Accept.{stand-fact, stand-test, cookie-acceptance}
+use Rattle.directory.proofs.Accept.{stand-fact, stand-test, there-from, there-to, cookie-acceptance}
 use Rattle.build.specs.declared.Fields.{Fields}
 use Rattle.build.specs.declared.TotalAnswer.{TotalAnswer}
 use Rattle.build.specs.declared.TotalAnswer.the-variants as totalAnswer
@@ -45,10 +45,6 @@ one-or-two level a b = by (eqb level 1) refl
     by true e = inl (eqb-true level 1 e)
     by false e = inr (let n = eqb-false level 1 e in omega arith)
 
-from-one : (level : ℕ) → (level ≡ 1) ⊎ (level ≡ 2) → (1 ≤ level) × (level ≤ 2)
-from-one level (inl e) = (omega arith, omega arith)
-from-one level (inr e) = (omega arith, omega arith)
-
 pub start-only : (level : ℕ) (s : List ℕ) (total : ℕ) → startOf level s ≡ given total → Startable level s × (total ≡ 0)
 unfolding startOf
 start-only level s total e =
@@ -58,7 +54,7 @@ start-only level s total e =
     (record { either = one-or-two level (leb-true _ _ (a .0)) (leb-true _ _ (b .0)); room = leb-true _ _ (r .0) }, cc (r .1))
 
 pub start-all : (level : ℕ) (s : List ℕ) → Startable level s → startOf level s ≡ given 0
-start-all level s g = let l = from-one level (g .either) in sym (start-room level s (l .0) (l .1) (g .room))
+start-all level s g = sym (start-room level s (there-from level (g .either)) (there-to level (g .either)) (g .room))
 
 pub extend-only : (f : Fields) (s : List ℕ) (total : ℕ) → extendOf f s ≡ given total → (level : ℕ) × (n : ℕ) × Extendable f s level n × (total ≡ n + 1)
 unfolding roomFor
@@ -76,7 +72,6 @@ extend-only f s total e =
       d .level,
       d .total,
       record {
-        either = g .2;
         good = subst (GoodDirectory pspKind 512 s) at (g .0);
         fits = record { location = ltb-true _ _ (a .0); mode = leb-true _ _ (b .0); may-stand = stand-fact pspKind (d .level) (f .class) (p .0) };
         new = λ j l m. apart (match-says (entryOf pspKind s (directoryOf 0 (d .level) (d .total)) j) (f .class) (f .subprogram) m)
@@ -92,9 +87,9 @@ pub extend-all : (f : Fields) (s : List ℕ) (level n : ℕ) → Extendable f s 
 extend-all f s level n g =
     let fits = g .fits in
     let l = fits .location in
-    ap (λ (r : Reply Directory). then r (roomFor f s)) (cookie-acceptance .all pspKind 512 s (directoryOf 0 level n) (λ e. omega arith) (g .good) (g .either))
-    ∙ sym (room-given f s (directoryOf 0 level n) (omega arith) (fits .mode) pspKind true refl (sym (stand-test pspKind level (f .class) (fits .may-stand))) refl false
-    (sym (some-false (λ j. matches (entryOf pspKind s (directoryOf 0 level n) j) (f .class) (f .subprogram)) n (λ j l. differs j (g .new j l)))) refl (g .few) (g .room))
+    ap (λ (r : Reply Directory). then r (roomFor f s)) (cookie-acceptance .all pspKind 512 s (directoryOf 0 level n) (λ e. omega arith) (g .good))
+    ∙ sym (room-given f s (directoryOf 0 level n) (omega arith) (fits .mode) pspKind level true refl refl (sym (stand-test pspKind level (f .class) (fits .may-stand))) refl false
+    (sym (some-false (λ j. matches (entryOf pspKind s (directoryOf 0 level n) j) (f .class) (f .subprogram)) n (λ j l. differs j (g .new j l)))) refl n refl (g .few) (g .room))
   where
     differs : (j : ℕ) → (Matches pspKind s (directoryOf 0 level n) (f .class) (f .subprogram) j → ⊥) → matches (entryOf pspKind s (directoryOf 0 level n) j) (f .class) (f .subprogram) ≡ false
     differs j never = by (matches (entryOf pspKind s (directoryOf 0 level n) j) (f .class) (f .subprogram)) refl

@@ -1,6 +1,5 @@
 -- What was accepted has the bytes of its level and entries, and is written again as it was. Assumes nothing.
 use mathlib.Core.Path.{_≡_, refl, sym, ap, _∙_}
-use mathlib.Core.Logic.{_⊎_}
 use mathlib.Core.List.{List}
 use Prim.Native.Nat.{ℕ, zero, suc, _+_, _*_, _<_, _≤_}
 use native.Mathlib.Nat.{zero-add, div-one}
@@ -14,6 +13,7 @@ use Rattle.fletcher.specs.Fletcher.{fletcherOf}
 use Rattle.reply.specs.Scan.{All}
 use Rattle.directory.specs.Directory.{pspKind, cookieOf, directoryOf}
 use Rattle.entries.specs.Entry.{entryOf}
+use Rattle.entries.proofs.PartAccept.{two-bits}
 use Rattle.directory.specs.Good.{GoodDirectory}
 use Rattle.directory.specs.declared.Directory.{Directory}
 use Rattle.build.specs.declared.Fields.{Fields}
@@ -78,9 +78,9 @@ module _ (s : List ℕ) (bytes : Bytes s) (level n : ℕ) (good : GoodDirectory 
       let long : 8 + (8 + n * 16) ≡ 16 + n * 16 = omega arith in
       directory-numbers level told ∙ rw (one, two, summed-bytes, part-add s 0 4 4, part-add s 0 8 (8 + n * 16), long) refl
 
-  pub told-sound : (level ≡ 1) ⊎ (level ≡ 2) → Sound level (toldIn s level n)
-  told-sound either = record {
-    either = either;
+  pub told-sound : Sound level (toldIn s level n)
+  told-sound = record {
+    either = good .level;
     few = omega (arith, good .few, length-from s (directoryOf 0 level n) n 0);
     apart = λ i j h l same.
         let d = directoryOf 0 level n in
@@ -98,7 +98,7 @@ module _ (s : List ℕ) (bytes : Bytes s) (level n : ℕ) (good : GoodDirectory 
     });
     fits = all-from s (directoryOf 0 level n) (Fits level) n 0 (λ j a b. record {
       location = omega arith;
-      mode = omega (arith, le-small s bytes 8 (16 + j * 16 + 8));
+      mode = two-bits s (16 + j * 16);
       may-stand = good .entries j (omega arith) .may-stand;
     });
   }

@@ -73,19 +73,19 @@ built level fs s t sized e =
 
 -- a directory that was accepted stands at the buffer's start, and is good
 found-at : (s : List ℕ) (d : Directory) → directoryByCookie pspKind 512 s 0 ≡ given d → (P : Directory → Type 0) →
-    (((level n : ℕ) → GoodDirectory pspKind 512 s (directoryOf 0 level n) → (level ≡ 1) ⊎ (level ≡ 2) → P (directoryOf 0 level n))) → P d
+    ((level n : ℕ) → GoodDirectory pspKind 512 s (directoryOf 0 level n) → P (directoryOf 0 level n)) → P d
 found-at s d found P h =
     let g = cookie-acceptance .only pspKind 512 s 0 d found in
     let at : directoryOf 0 (d .level) (d .total) ≡ d = ap (λ (o : ℕ). directoryOf o (d .level) (d .total)) (sym (g .1)) in
-    subst P at (h (d .level) (d .total) (subst (GoodDirectory pspKind 512 s) (sym at) (g .0)) (g .2))
+    subst P at (h (d .level) (d .total) (subst (GoodDirectory pspKind 512 s) (sym at) (g .0)))
 
 extended : (f : Fields) (s : List ℕ) (d : Directory) (total : ℕ) → Bytes s → Sized f → directoryByCookie pspKind 512 s 0 ≡ given d → extendOf f s ≡ given total →
     Holds (d .level) (entriesOf s d ++ (f ∷ [])) (extendedBy f s (given total))
-extended f s d total bytes sized found e = found-at s d found (λ d. Holds (d .level) (entriesOf s d ++ (f ∷ [])) (extendedBy f s (given total))) (λ level n good either.
+extended f s d total bytes sized found e = found-at s d found (λ d. Holds (d .level) (entriesOf s d ++ (f ∷ [])) (extendedBy f s (given total))) (λ level n good.
     let told = toldIn s level n in
     let rest = drop (16 + n * 16) s in
     let whole : directoryBytes level told ++ rest ≡ s = ap (λ (x : List ℕ). x ++ rest) (directory-bytes s bytes level n good) ∙ take-append-drop (16 + n * 16) s in
-    let x = step-only level told f rest total (told-sound s bytes level n good either) sized (ap (extendOf f) whole ∙ e) in
+    let x = step-only level told f rest total (told-sound s bytes level n good) sized (ap (extendOf f) whole ∙ e) in
     subst (Holds level (told ++ (f ∷ []))) (sym (x .2) ∙ ap (λ (y : List ℕ). extendedBy f y (given total)) whole) (holds level (told ++ (f ∷ [])) (x .0) (drop 16 rest)))
 
 pub read-back : ReadBack
@@ -93,18 +93,18 @@ read-back = record { started = started; extended = extended; built = built }
 
 bytes-same : (s : List ℕ) (d : Directory) → Bytes s → directoryByCookie pspKind 512 s 0 ≡ given d → take (entryPlace pspKind 0 (d .total)) s ≡ directoryBytes (d .level) (entriesOf s d)
 bytes-same s d bytes found =
-    found-at s d found (λ d. take (entryPlace pspKind 0 (d .total)) s ≡ directoryBytes (d .level) (entriesOf s d)) (λ level n good either. sym (directory-bytes s bytes level n good))
+    found-at s d found (λ d. take (entryPlace pspKind 0 (d .total)) s ≡ directoryBytes (d .level) (entriesOf s d)) (λ level n good. sym (directory-bytes s bytes level n good))
 
 again : (s buffer : List ℕ) (d : Directory) → Bytes s → directoryByCookie pspKind 512 s 0 ≡ given d → entryPlace pspKind 0 (d .total) ≤ length buffer →
     buildOf (d .level) (entriesOf s d) buffer ≡ given (take (entryPlace pspKind 0 (d .total)) s ++ drop (entryPlace pspKind 0 (d .total)) buffer)
 again s buffer d bytes found = found-at s d found
     (λ d. entryPlace pspKind 0 (d .total) ≤ length buffer → buildOf (d .level) (entriesOf s d) buffer ≡ given (take (entryPlace pspKind 0 (d .total)) s ++ drop (entryPlace pspKind 0 (d .total)) buffer))
-    (λ level n good either room.
+    (λ level n good room.
     let told = toldIn s level n in
     let long : length told ≡ n = length-from s (directoryOf 0 level n) n 0 in
-    let sound = told-sound s bytes level n good either in
+    let sound = told-sound s bytes level n good in
     build-all level told buffer (sound .sized)
-    (record { either = either; few = sound .few; fits = sound .fits; apart = sound .apart; room = omega arith })
+    (record { either = good .level; few = sound .few; fits = sound .fits; apart = sound .apart; room = omega arith })
     ∙ ap given (put-front (directoryBytes level told) buffer (16 + n * 16) (length-directory level told ∙ ap (λ (k : ℕ). 16 + k * 16) long) room
     ∙ ap (λ (x : List ℕ). x ++ drop (16 + n * 16) buffer) (directory-bytes s bytes level n good)))
 

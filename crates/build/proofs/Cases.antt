@@ -50,9 +50,9 @@ module _ (f : Fields) (s : List ℕ) (d : Directory) where
     unfolding roomFor
     room-mode b = rw (lt-ltb (f .location) (2 ^ 62) (omega arith), lt-leb (f .mode) 3 b)
 
-    module _ (b : f .mode ≤ 3) (kind : Kind) (p : Bool) (k : kind ≡ pspKind) (e : p ≡ mayStand kind (d .level) (f .class)) where
+    module _ (b : f .mode ≤ 3) (kind : Kind) (level : ℕ) (p : Bool) (k : kind ≡ pspKind) (l : level ≡ d .level) (e : p ≡ mayStand kind level (f .class)) where
       placed : mayStand pspKind (d .level) (f .class) ≡ p
-      placed = sym (e ∙ ap (λ (kind : Kind). mayStand kind (d .level) (f .class)) k)
+      placed = sym (e ∙ ap (λ (kind : Kind). mayStand kind level (f .class)) k ∙ ap (λ (level : ℕ). mayStand pspKind level (f .class)) l)
 
       pub room-misplaced : p ≡ false → refused 14 alone ≡ roomFor f s d
       unfolding roomFor
@@ -73,17 +73,20 @@ module _ (f : Fields) (s : List ℕ) (d : Directory) where
           first rest =
               passed _ _ _ _ (lt-ltb (f .location) (2 ^ 62) (omega arith)) ∙ passed _ _ _ _ (le-leb (f .mode) 3 b) ∙ passed _ _ _ _ (placed ∙ h) ∙ passed _ _ _ _ (ap not (holds ∙ y))
 
-          pub room-full : 512 ≤ d .total → refused 3 alone ≡ roomFor f s d
-          unfolding roomFor
-          room-full n = sym (first _ ∙ failed _ _ _ _ (le-ltb (d .total) 512 n))
+          module _ (n : ℕ) (total : n ≡ d .total) where
+            pub room-full : 512 ≤ n → refused 3 alone ≡ roomFor f s d
+            unfolding roomFor
+            room-full full = sym (first _ ∙ failed _ _ _ _ (le-ltb (d .total) 512 (omega (arith, total))))
 
-          pub room-short : d .total < 512 → length s < 16 + d .total * 16 + 16 → refused 12 alone ≡ roomFor f s d
-          unfolding roomFor
-          room-short n r = sym (first _ ∙ passed _ _ _ _ (lt-ltb (d .total) 512 n) ∙ failed _ _ _ _ (lt-leb (16 + d .total * 16 + 16) (length s) r))
+            pub room-short : n < 512 → length s < 16 + n * 16 + 16 → refused 12 alone ≡ roomFor f s d
+            unfolding roomFor
+            room-short few r = sym (first _ ∙ passed _ _ _ _ (lt-ltb (d .total) 512 (omega (arith, total))) ∙ failed _ _ _ _ (lt-leb (16 + d .total * 16 + 16) (length s) (omega (arith, total))))
 
-          pub room-given : d .total < 512 → 16 + d .total * 16 + 16 ≤ length s → given (d .total + 1) ≡ roomFor f s d
-          unfolding roomFor
-          room-given n r = sym (first _ ∙ passed _ _ _ _ (lt-ltb (d .total) 512 n) ∙ passed _ _ _ _ (le-leb (16 + d .total * 16 + 16) (length s) r))
+            pub room-given : n < 512 → 16 + n * 16 + 16 ≤ length s → given (n + 1) ≡ roomFor f s d
+            unfolding roomFor
+            room-given few r =
+                ap (λ (m : ℕ). given (m + 1)) total
+                ∙ sym (first _ ∙ passed _ _ _ _ (lt-ltb (d .total) 512 (omega (arith, total))) ∙ passed _ _ _ _ (le-leb (16 + d .total * 16 + 16) (length s) (omega (arith, total))))
 
 pub ruleset room-cases = (room-location, room-mode, room-misplaced, room-repeated, room-full, room-short, room-given)
 

@@ -91,6 +91,7 @@ module _ (level : ℕ) (fs : List Fields) (sound : Sound level fs) (r : List ℕ
       let shape = directory-headed level fs r in
       let reads = headed-reads c k n rest (cookie-small level) (fletcher-small (summedBytes fs)) (omega arith) in
       record {
+        level = sound .either;
         cookie = rw shape (reads .0);
         total = rw shape (reads .1 .1 .0);
         few = few;
@@ -112,7 +113,7 @@ module _ (level : ℕ) (fs : List Fields) (sound : Sound level fs) (r : List ℕ
 
   pub holds : Holds level fs (directoryBytes level fs ++ r)
   holds = record {
-    good = cookie-acceptance .all pspKind 512 (directoryBytes level fs ++ r) (directoryOf 0 level (length fs)) (λ e. omega arith) good (sound .either);
+    good = cookie-acceptance .all pspKind 512 (directoryBytes level fs ++ r) (directoryOf 0 level (length fs)) (λ e. omega arith) good;
     entries = entries-read (directoryBytes level fs ++ r) (directoryOf 0 level (length fs)) fs 0 (λ j h. ap (λ (k : ℕ). fieldsOf (fieldsAt (directoryBytes level fs ++ r) (16 + k * 16))) (zero-add j) ∙ at j h .0);
   }
 
@@ -171,7 +172,7 @@ step-only level gs f r total sound sized e =
     let x = extend-only f s total e in
     let g = x .2 in
     let d = directoryOf 0 (x .0) (x .1) in
-    let found : directoryByCookie pspKind 512 s 0 ≡ given d = cookie-acceptance .all pspKind 512 s d (λ q. omega arith) (g .good) (g .either) in
+    let found : directoryByCookie pspKind 512 s 0 ≡ given d = cookie-acceptance .all pspKind 512 s d (λ q. omega arith) (g .good) in
     let same : d ≡ directoryOf 0 level (length gs) = cc (holds level gs sound r .good) in
     let few : length gs < 512 = omega (arith, g .few, ap (λ (d : Directory). d .total) same) in
     let number : total ≡ length gs + 1 = omega (arith, x .3, ap (λ (d : Directory). d .total) same) in
@@ -209,7 +210,6 @@ grows level (f ∷ fs) gs r sound (z, zs) (w, ws) apart few room =
     let new = new-in gs fs f apart in
     let s = directoryBytes level gs ++ r in
     let accepted : extendOf f s ≡ given (length gs + 1) = extend-all f s level (length gs) (record {
-      either = sound .either;
       good = good level gs sound r;
       fits = w;
       new = λ j l m. new j l (at-same level gs sound r f j l m);

@@ -9,6 +9,7 @@ use lib.Seq.{take-at, length-take-le}
 use lib.Dec.{eqb}
 use Rattle.le.specs.Le.{leAt, leBytes, putBytes, putAt, Bytes, Number, bytesOf}
 use Rattle.le.specs.Back.{Held}
+use Rattle.le.proofs.Laws.{le-small}
 use Rattle.le.proofs.Back.{put-over}
 use Rattle.le.proofs.Numbers.{held, held-again}
 use Rattle.fletcher.specs.Fletcher.{fletcherOf}
@@ -132,7 +133,8 @@ entry-behind f p q e at sized location mode =
     let size : leAt 4 s (e + 4) ≡ f .size = ap (leAt 4 s) (omega arith) ∙ h .1 .1 .1 .0 in
     let word : leAt 8 s (e + 8) ≡ f .location + f .mode * 2 ^ 62 = ap (leAt 8 s) (omega arith) ∙ h .1 .1 .1 .1 .0 in
     let low : leAt 8 s (e + 8) % 0x4000_0000_0000_0000 ≡ f .location = omega arith in
-    let high : leAt 8 s (e + 8) / 0x4000_0000_0000_0000 ≡ f .mode = omega arith in
+    let top : leAt 8 s (e + 8) / 0x4000_0000_0000_0000 ≡ f .mode = omega arith in
+    let high : leAt 8 s (e + 8) / 0x4000_0000_0000_0000 % 4 ≡ f .mode = ap (λ (k : ℕ). k % 4) top ∙ omega arith in
     (λ j. record { class = class j; subprogram = subprogram j; size = size j; location = low j; mode = high j }, ap (leAt 2 s) (omega arith) ∙ h .1 .1 .0)
 
 -- in bytes, an entry that was read, with its reserved bits zero, is written again
@@ -142,6 +144,6 @@ entry-again s bytes e h zeros =
     let two : e + 1 + 1 ≡ e + 2 = omega arith in
     let size : leAt 4 s (e + 1 + 1 + 2) ≡ leAt 4 s (e + 4) = ap (leAt 4 s) (omega arith) in
     let eight : leAt 8 s (e + 1 + 1 + 2 + 4) ≡ leAt 8 s (e + 8) = ap (leAt 8 s) (omega arith) in
-    let word : leAt 8 s (e + 8) ≡ leAt 8 s (e + 8) % 2 ^ 62 + leAt 8 s (e + 8) / 2 ^ 62 * 2 ^ 62 = omega arith in
+    let word : leAt 8 s (e + 8) ≡ leAt 8 s (e + 8) % 2 ^ 62 + leAt 8 s (e + 8) / 2 ^ 62 % 2 ^ 2 * 2 ^ 62 = omega (arith, le-small s bytes 8 (e + 8)) in
     entry-numbers (fieldsOf (fieldsAt s e))
     ∙ held-again (entryFields (fieldsOf (fieldsAt s e))) s e bytes h (ap (leAt 1 s) (omega arith), (refl, (ap (leAt 2 s) two ∙ zeros, (size, (eight ∙ word, tt)))))

@@ -7,7 +7,7 @@ use Rattle.fletcher.specs.Fletcher.{wordsAt, sumOf, weightedOf, fletcherOf}
 use Rattle.reply.specs.Reply.{given, refused, alone}
 use Rattle.reply.specs.Scan.{scan}
 use Rattle.reply.specs.Some.{someBelow}
-use Rattle.directory.specs.Directory.{directoryAt, directoryByCookie}
+use Rattle.directory.specs.Directory.{directoryChecks, directoryByCookie}
 use Rattle.build.specs.declared.Fields.{Fields}
 use Rattle.build.specs.Write.{entryBytes, entriesBytes, directoryBytes, startOf, roomFor}
 use Rattle.build.specs.Back.{extendAll, buildOf}
@@ -21,5 +21,5 @@ pub tried : map (λ room. buildOf 1 (one ∷ []) (replicate room 0xAA)) (33 ∷ 
     0x24 ∷ 0x50 ∷ 0x53 ∷ 0x50 ∷ 0x02 ∷ 0x51 ∷ 0x14 ∷ 0x86 ∷ 1 ∷ 0 ∷ 0 ∷ 0 ∷ 0 ∷ 0 ∷ 0 ∷ 0
     ∷ 1 ∷ 0 ∷ 0 ∷ 0 ∷ 0 ∷ 1 ∷ 0 ∷ 0 ∷ 0 ∷ 0x10 ∷ 0 ∷ 0 ∷ 0 ∷ 0 ∷ 0 ∷ 0x40 ∷ 0xAA ∷ [])
     ∷ refused 12 alone ∷ refused 12 alone ∷ []
-unfolding leAt leBytes putBytes bytesOf wordsAt sumOf weightedOf fletcherOf scan someBelow directoryAt directoryByCookie entryBytes entriesBytes directoryBytes startOf roomFor extendAll
+unfolding leAt leBytes putBytes bytesOf wordsAt sumOf weightedOf fletcherOf scan someBelow directoryChecks directoryByCookie entryBytes entriesBytes directoryBytes startOf roomFor extendAll
 tried = refl

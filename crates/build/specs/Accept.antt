@@ -28,7 +28,6 @@ pub record Fits (level : ℕ) (f : Fields) : Type 0 where
 
 -- s begins with a good directory of this level and n entries, which can be extended by f: none of them has its type and subprogram
 pub record Extendable (f : Fields) (s : List ℕ) (level n : ℕ) : Type 0 where
-  pub either : (level ≡ 1) ⊎ (level ≡ 2)
   pub good : GoodDirectory pspKind 512 s (directoryOf 0 level n)
   pub fits : Fits level f
   pub new : (j : ℕ) → j < n → Matches pspKind s (directoryOf 0 level n) (f .class) (f .subprogram) j → ⊥

@@ -66,23 +66,24 @@ fn room_for(buf: &[u8], d: Directory, f: Fields) -> TotalAnswer
     ensures { λ r. ⌜ toldTotal r ≡ roomFor f (now (buf .entry)) d ⌝ }
 {
     let kind = directory::psp_kind();
+    let n = d.total();
     if 0x3FFF_FFFF_FFFF_FFFF < f.location {
         return TotalAnswer::Refused(Refusal::FIELD);
     }
     if 3 < f.mode {
         return TotalAnswer::Refused(Refusal::FIELD);
     }
-    if directory::may_stand(kind, d.level, f.class) {
+    if directory::may_stand(kind, d.level(), f.class) {
         if entries::holds_in(buf, kind, d, f.class, f.subprogram) {
             return TotalAnswer::Refused(Refusal::REPEATED);
         }
-        if LIMIT <= d.total {
+        if LIMIT <= n {
             return TotalAnswer::Refused(Refusal::LIMITS);
         }
-        if buf.len() < Directory::HEADER + (d.total as usize) * ENTRY + ENTRY {
+        if buf.len() < Directory::HEADER + (n as usize) * ENTRY + ENTRY {
             return TotalAnswer::Refused(Refusal::ROOM);
         }
-        TotalAnswer::Given(d.total + 1)
+        TotalAnswer::Given(n + 1)
     } else {
         TotalAnswer::Refused(Refusal::MISPLACED)
     }

@@ -1,6 +1,5 @@
 -- A directory of an image, written again. Assumes nothing.
 use mathlib.Core.Path.{_≡_, refl, sym, ap, subst, _∙_}
-use mathlib.Core.Logic.{_⊎_, inl, inr}
 use mathlib.Core.List.{List, _∷_, _++_}
 use Prim.Native.Nat.{ℕ, zero, suc, _+_, _≤_}
 use native.Mathlib.Omega.{arith}
@@ -38,7 +37,7 @@ entries-same s d zero i = refl
 entries-same s d (suc m) i = λ j. fieldsOf (entry-same pspKind s d i j) ∷ entries-same s d m (i + 1) j
 
 -- a directory that was accepted where it stands
-module _ (image : List ℕ) (d : Directory) (bytes : Bytes image) (either : (d .level ≡ 1) ⊎ (d .level ≡ 2)) (e : directoryAt pspKind 512 (d .level) image (d .place .0) ≡ given d) where
+module _ (image : List ℕ) (d : Directory) (bytes : Bytes image) (e : directoryAt pspKind 512 (d .level) image (d .place .0) ≡ given d) where
   -- the bytes from there on
   abbrev rest : List ℕ
   rest = drop (d .place .0) image
@@ -50,7 +49,7 @@ module _ (image : List ℕ) (d : Directory) (bytes : Bytes image) (either : (d .
   good = acceptance .only pspKind 512 (d .level) rest 0 (fromStart d) (directory-same pspKind image (d .place .0) 512 (d .level) ∙ ap toldFromStart e) .0
 
   found : directoryByCookie pspKind 512 rest 0 ≡ given (fromStart d)
-  found = cookie-acceptance .all pspKind 512 rest (fromStart d) (λ e. omega arith) good either
+  found = cookie-acceptance .all pspKind 512 rest (fromStart d) (λ e. omega arith) good
 
   told : entriesOf rest (fromStart d) ≡ entriesOf image d
   told = entries-same image d (d .total) 0
@@ -65,7 +64,7 @@ module _ (image : List ℕ) (d : Directory) (bytes : Bytes image) (either : (d .
   read-back behind =
       subst (λ (s : List ℕ). Holds (d .level) (entriesOf image d) (s ++ behind)) (sym same-bytes)
       (subst (λ (fs : List Fields). Holds (d .level) fs (directoryBytes (d .level) fs ++ behind)) told
-      (holds (d .level) (entriesOf rest (fromStart d)) (told-sound rest rest-bytes (d .level) (d .total) good either) behind))
+      (holds (d .level) (entriesOf rest (fromStart d)) (told-sound rest rest-bytes (d .level) (d .total) good) behind))
 
   long : length (entriesOf image d) ≡ d .total
   long = length-from image d (d .total) 0
@@ -78,38 +77,47 @@ module _ (image : List ℕ) (d : Directory) (bytes : Bytes image) (either : (d .
     entries = λ behind. ap (λ (n : ℕ). entriesOf (bytesIn image d ++ behind) (directoryOf 0 (d .level) n)) (sym long) ∙ read-back behind .entries;
   }
 
-at : (level : ℕ) (image : List ℕ) (o : ℕ) (d : Directory) → Bytes image → (level ≡ 1) ⊎ (level ≡ 2) → directoryAt pspKind 512 level image o ≡ given d →
+at : (level : ℕ) (image : List ℕ) (o : ℕ) (d : Directory) → Bytes image → directoryAt pspKind 512 level image o ≡ given d →
     (d .place .0 ≡ o) × (d .level ≡ level) × WrittenAgain image d
-at level image o d bytes either e =
+at level image o d bytes e =
     let g = acceptance .only pspKind 512 level image o d e in
     let here : directoryAt pspKind 512 (d .level) image (d .place .0) ≡ given d =
     ap (λ (l : ℕ). directoryAt pspKind 512 l image (d .place .0)) (g .2) ∙ ap (directoryAt pspKind 512 level image) (g .1) ∙ e in
-    (g .1, g .2, written image d bytes (rw (g .2) either) here)
+    (g .1, g .2, written image d bytes here)
 
 by-cookie : (image : List ℕ) (o : ℕ) (d : Directory) → Bytes image → directoryByCookie pspKind 512 image o ≡ given d → (d .place .0 ≡ o) × WrittenAgain image d
 by-cookie image o d bytes e =
     let g = cookie-acceptance .only pspKind 512 image o d e in
-    (g .1, written image d bytes (g .2) (acceptance .all pspKind 512 image d (g .0)))
+    (g .1, written image d bytes (acceptance .all pspKind 512 image d (g .0)))
 
 -- a directory that is given within a limit is given within a higher one
 wider : (kind : Kind) (limit higher level : ℕ) (image : List ℕ) (o : ℕ) (d : Directory) → limit ≤ higher → directoryAt kind limit level image o ≡ given d → directoryAt kind higher level image o ≡ given d
-unfolding directoryAt
 wider kind limit higher level image o d h e =
     let g = acceptance .only kind limit level image o d e in
-    let total : totalAt image o ≡ d .total = ap (totalAt image) (sym (g .1)) ∙ g .0 .total in
-    let few : totalAt image o ≤ limit = rw total (g .0 .few) in
-    rw (le-leb (totalAt image o) higher (omega arith)) (rw (le-leb (totalAt image o) limit few) at e)
+    let few : d .total ≤ limit = g .0 .few in
+    let good : GoodDirectory kind higher image d = record {
+      level = g .0 .level;
+      cookie = g .0 .cookie;
+      total = g .0 .total;
+      few = omega arith;
+      present = g .0 .present;
+      checksum = g .0 .checksum;
+      reserved = g .0 .reserved;
+      entries = g .0 .entries;
+      first = g .0 .first;
+    } in
+    ap (λ (l : ℕ). directoryAt kind higher l image o) (sym (g .2)) ∙ ap (directoryAt kind higher (d .level) image) (sym (g .1)) ∙ acceptance .all kind higher image d good
 
 module _ (r : Rules) (image : List ℕ) (psp : PspRules r) (bytes : Bytes image) where
-  by-rules : (level o : ℕ) (d : Directory) → (level ≡ 1) ⊎ (level ≡ 2) → directoryAt (r .kind) (r .limit) level image o ≡ given d → (d .level ≡ level) × WrittenAgain image d
-  by-rules level o d either e =
-      let a = at level image o d bytes either (wider pspKind (r .limit) 512 level image o d (psp .limit) (ap (λ (kind : Kind). directoryAt kind (r .limit) level image o) (sym (psp .kind)) ∙ e)) in
+  by-rules : (level o : ℕ) (d : Directory) → directoryAt (r .kind) (r .limit) level image o ≡ given d → (d .level ≡ level) × WrittenAgain image d
+  by-rules level o d e =
+      let a = at level image o d bytes (wider pspKind (r .limit) 512 level image o d (psp .limit) (ap (λ (kind : Kind). directoryAt kind (r .limit) level image o) (sym (psp .kind)) ∙ e)) in
       (a .1, a .2)
 
   led : (o : ℕ) (e : Entry) (d : Directory) → levelTwoAt r image o e ≡ given d → (d .level ≡ 2) × WrittenAgain image d
   led o e d q =
-      let t = then-given (leadsTo (r .window) image o e) (directoryAt (r .kind) (r .limit) 2 image) q in
-      by-rules 2 (t .0) d (inr refl) (t .2)
+      let t = then-given (leadsTo (r .window) image o e) (λ p. directoryAt (r .kind) (r .limit) 2 image (p .0)) q in
+      by-rules 2 (t .0 .0) d (t .2)
 
   flash : (level : ℕ) (d : Directory) → flashDirectory r level image ≡ given d → (d .level ≡ level) × WrittenAgain image d
   flash level d e = by (opened r image d level e .1)
@@ -117,7 +125,7 @@ module _ (r : Rules) (image : List ℕ) (psp : PspRules r) (bytes : Bytes image)
       by : {l : ℕ} → Opened r image d l → (d .level ≡ l) × WrittenAgain image d
       by (one q) =
           let t = then-given (pointerIn r image) (λ p. directoryAt (r .kind) (r .limit) 1 image (p .place .0)) q in
-          by-rules 1 (t .0 .place .0) d (inl refl) (t .2)
+          by-rules 1 (t .0 .place .0) d (t .2)
       by (two above a q) =
           let t = then-given (leadIn (r .kind) image above) (levelTwoAt r image (above .place .0)) q in
           led (above .place .0) (t .0) d (t .2)

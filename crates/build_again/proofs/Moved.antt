@@ -13,7 +13,7 @@ use Rattle.reply.specs.Reply.{Reply, Carried, given, check}
 use Rattle.reply.specs.Scan.{scan}
 use Rattle.reply.proofs.ReplyLaws.{check-same}
 use Rattle.reply.proofs.SomeLaws.{some-same}
-use Rattle.directory.specs.Directory.{totalAt, entryPlace, sameEntry, mayRepeat, entryStep, directoryOf, directoryAt, directoryByCookie}
+use Rattle.directory.specs.Directory.{totalAt, entryPlace, sameEntry, mayRepeat, entryStep, directoryOf, directoryChecks, directoryAt, directoryByCookie}
 use Rattle.directory.specs.declared.Kind.{Kind}
 use Rattle.directory.specs.declared.Directory.{Directory}
 use Rattle.entries.specs.Entry.{fieldsAt, entryOf}
@@ -69,9 +69,9 @@ module _ (kind : Kind) (s : List ℕ) (o : ℕ) where
   end-same n = room-drop s o (entryPlace kind 0 n) (omega arith) ∙ ap (λ (e : ℕ). leb e (length s)) (omega arith)
 
   module _ (limit : ℕ) where
-    pub directory-same : (level : ℕ) → directoryAt kind limit level (drop o s) 0 ≡ toldFromStart (directoryAt kind limit level s o)
-    unfolding directoryAt
-    directory-same level =
+    checks-same : (level : ℕ) → directoryChecks kind limit level (drop o s) 0 ≡ toldFromStart (directoryChecks kind limit level s o)
+    unfolding directoryChecks
+    checks-same level =
         let total : leAt 4 (drop o s) 8 ≡ leAt 4 s (o + 8) = le-drop 4 s o 8 in
         let n = totalAt s o in
         rw (
@@ -86,9 +86,12 @@ module _ (kind : Kind) (s : List ℕ) (o : ℕ) where
         )
         (simp told-check)
 
+    pub directory-same : (level : ℕ) → directoryAt kind limit level (drop o s) 0 ≡ toldFromStart (directoryAt kind limit level s o)
+    directory-same level = rw (checks-same level) (simp told-check)
+
     pub cookie-same : directoryByCookie kind limit (drop o s) 0 ≡ toldFromStart (directoryByCookie kind limit s o)
     unfolding directoryByCookie
-    cookie-same = rw (le-drop 4 s o 0, room-drop s o 16 (omega arith), directory-same 1, directory-same 2) (simp (told-check, told-cond))
+    cookie-same = rw (le-drop 4 s o 0, room-drop s o 16 (omega arith), checks-same 1, checks-same 2) (simp (told-check, told-cond))
 
 pub fields-same : (s : List ℕ) (o e : ℕ) → fieldsAt (drop o s) e ≡ fieldsAt s (o + e)
 fields-same s o e =

@@ -8,7 +8,7 @@ use Rattle.fletcher.specs.Fletcher.{wordsAt, sumOf, weightedOf, fletcherOf}
 use Rattle.reply.specs.Reply.{given, then}
 use Rattle.reply.specs.Scan.{scan}
 use Rattle.reply.specs.Some.{someBelow}
-use Rattle.directory.specs.Directory.{pspKind, directoryAt, directoryByCookie}
+use Rattle.directory.specs.Directory.{pspKind, directoryChecks, directoryAt, directoryByCookie}
 use Rattle.build.specs.Write.{entryBytes, entriesBytes, directoryBytes, startOf, roomFor}
 use Rattle.build.specs.Back.{entriesFrom, entriesOf, extendAll, buildOf}
 
@@ -22,5 +22,5 @@ abbrev image : List ℕ
 image = 7 ∷ 7 ∷ 7 ∷ directory ++ (9 ∷ [])
 
 pub tried : then (directoryAt pspKind 512 2 image 3) (λ d. buildOf (d .level) (entriesOf image d) (replicate 50 0xAA)) ≡ given (directory ++ (0xAA ∷ 0xAA ∷ []))
-unfolding leAt leBytes putBytes bytesOf wordsAt sumOf weightedOf fletcherOf scan someBelow directoryAt directoryByCookie entryBytes entriesBytes directoryBytes startOf roomFor entriesFrom extendAll
+unfolding leAt leBytes putBytes bytesOf wordsAt sumOf weightedOf fletcherOf scan someBelow directoryChecks directoryByCookie entryBytes entriesBytes directoryBytes startOf roomFor entriesFrom extendAll
 tried = refl

@@ -1,7 +1,6 @@
 -- A directory of an image, wherever it stands, written again: the same bytes, which read back as it did. Assumes nothing: these are statements.
 use Prim.Native.Nat.{ℕ, _+_, _*_, _≤_}
 use mathlib.Core.Path.{_≡_}
-use mathlib.Core.Logic.{_⊎_}
 use mathlib.Core.List.{List, _++_}
 use lib.ListN.{length, take, drop}
 use Rattle.le.specs.Le.{Bytes}
@@ -57,7 +56,7 @@ pub record PspRules (r : Rules) : Type 0 where
 -- in an image of bytes, as every lent one is, a PSP directory that is accepted is written again so, whichever way leads to it
 pub record AcceptedAgain : Type 0 where
   -- at an offset: of the level asked for, or of the level that its cookie names
-  pub at : (level : ℕ) (image : List ℕ) (o : ℕ) (d : Directory) → Bytes image → (level ≡ 1) ⊎ (level ≡ 2) → directoryAt pspKind 512 level image o ≡ given d →
+  pub at : (level : ℕ) (image : List ℕ) (o : ℕ) (d : Directory) → Bytes image → directoryAt pspKind 512 level image o ≡ given d →
       (d .place .0 ≡ o) × (d .level ≡ level) × WrittenAgain image d
   pub by-cookie : (image : List ℕ) (o : ℕ) (d : Directory) → Bytes image → directoryByCookie pspKind 512 image o ≡ given d → (d .place .0 ≡ o) × WrittenAgain image d
   -- of level one by the directory pointer, or of level two by the lowest lead

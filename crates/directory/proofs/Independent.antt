@@ -7,15 +7,15 @@ use native.Mathlib.Omega.{arith}
 use borrow.Author.Tests.{ltb-true}
 use lib.ListN.{length, getD, take, drop, length-take, length-drop}
 use lib.Seq.{ext-getD, getD-take, getD-drop}
-use lib.Dec.{ltb, eqb}
+use lib.Dec.{leb, ltb, eqb}
 use mathlib.Core.Bool.{Bool, not, cond, _&&_, _||_}
 use Rattle.le.specs.Le.{leAt}
 use Rattle.le.proofs.Laws.{le-same}
 use Rattle.le.proofs.Part.{part-same}
-use Rattle.reply.specs.Reply.{Reply, given, refused, alone, check, then}
+use Rattle.reply.specs.Reply.{Reply, given, refused, alone, check, guard, then}
 use Rattle.reply.proofs.ReplyLaws.{check-same, then-same}
 use Rattle.reply.proofs.ScanLaws.{scan-same}
-use Rattle.directory.specs.Directory.{totalAt, entryPlace, classAt, subprogramAt, sameEntry, mayRepeat, entryStep, directoryOf, entriesAt, directoryAt, directoryByCookie}
+use Rattle.directory.specs.Directory.{totalAt, entryPlace, classAt, subprogramAt, sameEntry, mayRepeat, entryStep, directoryOf, entriesAt, directoryChecks, directoryAt, directoryByCookie}
 use Rattle.directory.specs.Independent.{Agree, endOf, Independence}
 use Rattle.reply.proofs.SomeLaws.{some-same}
 use Rattle.directory.specs.declared.Kind.{Kind}
@@ -52,17 +52,20 @@ module _ (kind : Kind) (s t : List ℕ) (o n : ℕ) (wide : 16 ≤ kind .entry) 
       (λ j a b rest. rw (number j (omega arith) 2 2 (omega arith), may-same j (omega arith), first j (omega arith)))
 
 module _ (kind : Kind) (limit : ℕ) (s t : List ℕ) (o : ℕ) (wide : 16 ≤ kind .entry) (agree : Agree s t o (entryPlace kind o (totalAt s o))) where
-  pub directory-same : (level : ℕ) → directoryAt kind limit level s o ≡ directoryAt kind limit level t o
-  unfolding directoryAt
-  directory-same level =
+  checks-same : (level : ℕ) → directoryChecks kind limit level s o ≡ directoryChecks kind limit level t o
+  unfolding directoryChecks
+  checks-same level =
       let n = totalAt s o in
       let part = part-same (8 + n * kind .entry) (o + 8) s t (agree .long) (λ j x y. agree .same j (omega arith) (omega arith)) in
       let number = head kind s t o n wide agree in
       rw (entries-same kind s t o n wide agree level, part, agree .long, number 4 (o + 0) (omega arith) (omega arith), number 4 (o + 8) (omega arith) (omega arith), number 4 (o + 4) (omega arith) (omega arith), number 4 (o + 12) (omega arith) (omega arith))
 
+  pub directory-same : (level : ℕ) → directoryAt kind limit level s o ≡ directoryAt kind limit level t o
+  directory-same level = ap (λ (r : Reply Directory). guard (leb 1 level) 9 (guard (leb level 2) 9 r)) (checks-same level)
+
   cookie-same : directoryByCookie kind limit s o ≡ directoryByCookie kind limit t o
   unfolding directoryByCookie
-  cookie-same = rw (directory-same 1, directory-same 2, agree .long, head kind s t o (totalAt s o) wide agree 4 (o + 0) (omega arith) (omega arith))
+  cookie-same = rw (checks-same 1, checks-same 2, agree .long, head kind s t o (totalAt s o) wide agree 4 (o + 0) (omega arith) (omega arith))
 
 pub independence : Independence
 independence = record {

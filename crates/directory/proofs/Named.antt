@@ -13,7 +13,7 @@ use Rattle.reply.specs.Scan.{scan}
 use Rattle.reply.specs.Some.{someBelow, firstBelow}
 use Rattle.reply.proofs.ReplyLaws.{clash, apart}
 use Rattle.reply.proofs.SomeLaws.{some-true, some-first, Found, first-found, none-below}
-use Rattle.directory.specs.Directory.{cookieOf, totalAt, entryPlace, checksumAt, classAt, reservedZero, mayStand, sameEntry, repeatsEarlier, mayRepeat, entryStep, directoryOf, entriesAt, directoryAt}
+use Rattle.directory.specs.Directory.{cookieOf, totalAt, entryPlace, checksumAt, classAt, reservedZero, mayStand, sameEntry, repeatsEarlier, mayRepeat, entryStep, directoryOf, entriesAt, directoryChecks, directoryAt}
 use Rattle.directory.specs.Repeat.{earlierOf, repeatIn, namedBy, repeatedAt}
 use Rattle.directory.specs.Good.{Alike, FirstRepeat, NamesBoth}
 use Rattle.directory.specs.declared.Kind.{Kind}
@@ -47,10 +47,11 @@ not-may false false e = apart refl e
 
 module _ (kind : Kind) (limit level : ℕ) (s : List ℕ) (o : ℕ) (c : Carried) where
   some-repeats : directoryAt kind limit level s o ≡ refused 18 c → someBelow (repeatsEarlier kind s o) (totalAt s o) ≡ true
-  unfolding directoryAt
+  unfolding directoryChecks
   some-repeats e =
       let n = totalAt s o in
-      let e1 = past-18 (leb (o + 16) (length s)) 1 _ (λ z. omega arith) e in
+      let e0 = past-18 (leb level 2) 9 _ (λ z. omega arith) (past-18 (leb 1 level) 9 _ (λ z. omega arith) e) in
+      let e1 = past-18 (leb (o + 16) (length s)) 1 _ (λ z. omega arith) e0 in
       let e2 = past-18 (eqb (leAt 4 s (o + 0)) (cookieOf kind level)) 2 _ (λ z. omega arith) e1 in
       let e3 = past-18 (leb n limit) 3 _ (λ z. omega arith) e2 in
       let e4 = past-18 (leb (entryPlace kind o n) (length s)) 1 _ (λ z. omega arith) e3 in

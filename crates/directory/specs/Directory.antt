@@ -21,7 +21,7 @@ use Rattle.directory.specs.declared.DirectoryAnswer.the-variants as dire
 abbrev pub pspKind : Kind
 pspKind = record { one = 0x5053_5024; two = 0x324C_5024; entry = 16; lead = 0x40; value = 0x0B; used = 0; repeats = false }
 
--- the cookie of a level: `one` of level one, `two` of level two; no other level is asked for (flashDirectory: 9)
+-- the cookie of level one, or of level two; of any other level no cookie is asked for (directoryAt: 9)
 abbrev pub cookieOf : Kind → (level : ℕ) → ℕ
 cookieOf kind level = cond (eqb level 1) (kind .one) (kind .two)
 
@@ -80,9 +80,9 @@ directoryOf o level n = record { place = record { 0 = o }; level = level; total 
 abbrev pub entriesAt : Kind → (level : ℕ) → (image : List ℕ) → (o n : ℕ) → Reply Directory
 entriesAt kind level image o n = scan (entryStep kind level image o) (λ _. given (directoryOf o level n)) n 0
 
--- the directory of a level at o, whose total is at most `limit` (512)
-unfoldable pub directoryAt : Kind → (limit level : ℕ) → (image : List ℕ) → (o : ℕ) → Reply Directory
-directoryAt kind limit level image o =
+-- the checks of a directory of level one or two at o, whose total is at most `limit` (512)
+unfoldable pub directoryChecks : Kind → (limit level : ℕ) → (image : List ℕ) → (o : ℕ) → Reply Directory
+directoryChecks kind limit level image o =
     let n = totalAt image o in
     guard (leb (o + header.bytes) (length image)) 1  -- 16 bytes present (1)
     (guard (eqb (get header.cookie image o) (cookieOf kind level)) 2  -- cookie of the level asked for (2)
@@ -91,6 +91,10 @@ directoryAt kind limit level image o =
     (guard (eqb (get header.checksum image o) (checksumAt kind image o n)) 4  -- checksum (4)
     (guard (eqb (get header.reserved image o) 0) 5  -- header reserved zero (5)
     (entriesAt kind level image o n))))))  -- then entry by entry (5, 14, 18)
+
+-- the directory of a level at o: the level number (9), then its checks
+abbrev pub directoryAt : Kind → (limit level : ℕ) → (image : List ℕ) → (o : ℕ) → Reply Directory
+directoryAt kind limit level image o = guard (leb 1 level) 9 (guard (leb level 2) 9 (directoryChecks kind limit level image o))
 
 -- the directory at o of the level that its cookie names
 unfoldable pub directoryByCookie : Kind → (limit : ℕ) → (image : List ℕ) → (o : ℕ) → Reply Directory

@@ -37,6 +37,7 @@ First kind image o i = kind .repeats ≡ false → (j : ℕ) → j < i → Alike
 
 -- the directory d
 pub record GoodDirectory (kind : Kind) (limit : ℕ) (image : List ℕ) (d : Directory) : Type 0 where
+  pub level : (d .level ≡ 1) ⊎ (d .level ≡ 2)
   pub cookie : get header.cookie image (d .place .0) ≡ cookieOf kind (d .level)
   pub total : totalAt image (d .place .0) ≡ d .total
   pub few : d .total ≤ limit
@@ -52,11 +53,10 @@ pub record Acceptance : Type 0 where
       GoodDirectory kind limit image d × (d .place .0 ≡ o) × (d .level ≡ level)
   pub all : (kind : Kind) (limit : ℕ) (image : List ℕ) (d : Directory) → GoodDirectory kind limit image d → directoryAt kind limit (d .level) image (d .place .0) ≡ given d
 
--- by its cookie, a directory is given exactly where it is good and of level one or two; of a kind whose cookies differ
+-- by its cookie, a directory is given exactly where it is good; of a kind whose cookies differ
 pub record CookieAcceptance : Type 0 where
-  pub only : (kind : Kind) (limit : ℕ) (image : List ℕ) (o : ℕ) (d : Directory) → directoryByCookie kind limit image o ≡ given d →
-      GoodDirectory kind limit image d × (d .place .0 ≡ o) × ((d .level ≡ 1) ⊎ (d .level ≡ 2))
-  pub all : (kind : Kind) (limit : ℕ) (image : List ℕ) (d : Directory) → (kind .one ≡ kind .two → ⊥) → GoodDirectory kind limit image d → (d .level ≡ 1) ⊎ (d .level ≡ 2) →
+  pub only : (kind : Kind) (limit : ℕ) (image : List ℕ) (o : ℕ) (d : Directory) → directoryByCookie kind limit image o ≡ given d → GoodDirectory kind limit image d × (d .place .0 ≡ o)
+  pub all : (kind : Kind) (limit : ℕ) (image : List ℕ) (d : Directory) → (kind .one ≡ kind .two → ⊥) → GoodDirectory kind limit image d →
       directoryByCookie kind limit image (d .place .0) ≡ given d
 
 -- entry i is the first of n that repeats an earlier one, and that is entry j

@@ -9,7 +9,7 @@ ghost use Rattle.le.specs.Field.{get};
 ghost use Rattle.reply.specs.Reply.{guard};
 ghost use Rattle.reply.specs.Some.{someBelow, firstBelow};
 ghost use Rattle.directory.specs.Header as header;
-ghost use Rattle.directory.specs.Directory.{pspKind, cookieOf, entryPlace, checksumAt, mayStand, sameEntry, repeatsEarlier, entriesAt, directoryAt, directoryByCookie, toldDirectory};
+ghost use Rattle.directory.specs.Directory.{pspKind, cookieOf, entryPlace, checksumAt, mayStand, sameEntry, repeatsEarlier, entriesAt, directoryChecks, directoryAt, directoryByCookie, toldDirectory};
 ghost use Rattle.directory.specs.Repeat.{earlierOf, repeatIn, repeatedAt, toldRepeat};
 ghost use Rattle.directory.specs.Looks.{headAt, flagsUsed, clearBelow, faultyHead, faultyAt, badAt, endedAt};
 use reply::Refusal;
@@ -55,14 +55,33 @@ pub fn psp_kind() -> Kind
     }
 }
 
-// A directory: where it begins, its level, and how many entries it has.
+// A directory that was checked: where it begins, its level, and how many entries it has. Its fields are this crate's own, so that no caller can
+// make one by hand: the checks below give the only ones there are.
 pub struct Directory {
-    pub place: Offset,
-    pub level: u32,
-    pub total: u32,
+    place: Offset,
+    level: u32,
+    total: u32,
 }
 
 impl Directory {
+    pub fn place(self) -> Offset
+        ensures { λ r. ⌜ r ≡ self .place ⌝ }
+    {
+        self.place
+    }
+
+    pub fn level(self) -> u32
+        ensures { λ r. ⌜ r ≡ self .level ⌝ }
+    {
+        self.level
+    }
+
+    pub fn total(self) -> u32
+        ensures { λ r. ⌜ r ≡ self .total ⌝ }
+    {
+        self.total
+    }
+
     // Where the fields of its header begin, and the header's bytes.
     pub const COOKIE: usize = 0;
 
@@ -284,9 +303,22 @@ fn sealed(image: &[u8], kind: Kind, level: u32, at: Offset, n: u32) -> Directory
     entries_at(image, kind, level, at, n)
 }
 
-// All checks of a directory of a level, of at most so many entries.
+// All checks of a directory of a level, of at most so many entries. A level that there is not is refused.
 pub fn directory_at(image: &[u8], kind: Kind, limit: u32, level: u32, at: Offset) -> DirectoryAnswer
     ensures { λ r. ⌜ toldDirectory r ≡ directoryAt kind limit level (now (image .entry)) (at .0) ⌝ }
+{
+    if level < 1 {
+        return DirectoryAnswer::Refused(Refusal::RANGE);
+    }
+    if 2 < level {
+        return DirectoryAnswer::Refused(Refusal::RANGE);
+    }
+    checked(image, kind, limit, level, at)
+}
+
+// The checks of a directory of level one or two.
+fn checked(image: &[u8], kind: Kind, limit: u32, level: u32, at: Offset) -> DirectoryAnswer
+    ensures { λ r. ⌜ toldDirectory r ≡ directoryChecks kind limit level (now (image .entry)) (at .0) ⌝ }
 {
     let o = at.0 as usize;
     if image.len() < o + Directory::HEADER {
@@ -316,10 +348,10 @@ pub fn directory_by_cookie(image: &[u8], kind: Kind, limit: u32, at: Offset) -> 
     }
     let found = le::u32_at(image, o + Directory::COOKIE);
     if found == kind.one {
-        return directory_at(image, kind, limit, 1, at);
+        return checked(image, kind, limit, 1, at);
     }
     if found == kind.two {
-        return directory_at(image, kind, limit, 2, at);
+        return checked(image, kind, limit, 2, at);
     }
     DirectoryAnswer::Refused(Refusal::SIGNATURE)
 }

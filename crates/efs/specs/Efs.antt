@@ -10,7 +10,7 @@ use Rattle.reply.specs.Scan.{scan}
 use Rattle.window.specs.Window.{windowStart, offsetIn, within}
 use Rattle.window.specs.declared.Offset.{Offset}
 use Rattle.efs.specs.Fields as efs
-use Rattle.efs.specs.Rules.{sized}
+use Rattle.window.specs.Length.{sized}
 use Rattle.efs.specs.declared.Rules.{Rules}
 use Rattle.efs.specs.declared.Efs.{Efs}
 use Rattle.efs.specs.declared.EfsAnswer.{EfsAnswer}

@@ -10,15 +10,9 @@ use Rattle.reply.specs.Scan.{Lowest}
 use Rattle.window.specs.Window.{fourGiB, windowStart}
 use Rattle.window.specs.Inside.{Shown}
 use Rattle.efs.specs.Fields as efs
-use Rattle.efs.specs.Rules.{longest}
 use Rattle.efs.specs.Efs.{pointerIn}
 use Rattle.efs.specs.declared.Rules.{Rules}
 use Rattle.efs.specs.declared.Pointer.{Pointer}
-
--- an image of 1 to 16,777,216 bytes
-pub record GoodLength (image : List ℕ) : Type 0 where
-  pub from : 1 ≤ length image
-  pub to : length image ≤ longest
 
 -- an EFS at physical address a: the window shows the address at a place, its 0x24 bytes lie in the image, and they start with aa 55 aa 55
 pub record EfsAt (window : ℕ) (image : List ℕ) (a : ℕ) : Type 0 where

@@ -1,8 +1,7 @@
 // From a flash image to its EFS and its directory pointer, and the rules that every call on an image goes by.
 ghost use mathlib.Core.Path.{_≡_};
-ghost use Rattle.reply.specs.Reply.{given};
-ghost use Rattle.window.specs.Window.{within, toldOffset};
-ghost use Rattle.efs.specs.Rules.{baseRules, lengthAllowed};
+ghost use Rattle.window.specs.Window.{toldOffset};
+ghost use Rattle.efs.specs.Rules.{baseRules};
 ghost use Rattle.efs.specs.Efs.{counts, candidateAt, efsPlace, efsAt, efsIn, absent, pointerTo, pointerFrom, pointerOf, pointerIn, flashEfs, flashPointer, toldEfs, toldPointer};
 use directory::Kind;
 use reply::Refusal;
@@ -22,8 +21,6 @@ pub struct Rules {
 impl Rules {
     // The largest total of a directory.
     pub const LIMIT: u32 = 512;
-    // The bytes of the longest image.
-    pub const LONGEST: usize = 16_777_216;
 }
 
 // An EFS: its place, and its two directory pointers as they stand.
@@ -82,21 +79,11 @@ pub fn base_rules() -> Rules
     }
 }
 
-// Has an image a length that is allowed?
-pub fn length_allowed(image: &[u8]) -> bool
-    ensures { λ r. ⌜ r ≡ lengthAllowed (now (image .entry)) ⌝ }
-{
-    if image.len() < 1 {
-        return false;
-    }
-    image.len() <= Rules::LONGEST
-}
-
 // The EFS: its place and its two directory pointers.
 pub fn flash_efs(image: &[u8]) -> EfsAnswer
     ensures { λ r. ⌜ toldEfs r ≡ flashEfs baseRules (now (image .entry)) ⌝ }
 {
-    if length_allowed(image) {
+    if window::length_allowed(image) {
         efs_in(image, base_rules())
     } else {
         EfsAnswer::Refused(Refusal::IMAGE)
@@ -107,7 +94,7 @@ pub fn flash_efs(image: &[u8]) -> EfsAnswer
 pub fn flash_pointer(image: &[u8]) -> PointerAnswer
     ensures { λ r. ⌜ toldPointer r ≡ flashPointer baseRules (now (image .entry)) ⌝ }
 {
-    if length_allowed(image) {
+    if window::length_allowed(image) {
         pointer_in(image, base_rules())
     } else {
         PointerAnswer::Refused(Refusal::IMAGE)
@@ -225,29 +212,17 @@ fn pointer_from(image: &[u8], window: u32, field: u32, value: u32) -> PointerAns
     }
 }
 
-// Where a pointer leads.
+// Where a pointer leads: by the window, where that shows it, else as an offset.
 fn pointer_to(image: &[u8], window: u32, p: u32) -> OffsetAnswer
     ensures { λ r. ⌜ toldOffset r ≡ pointerTo window (now (image .entry)) p ⌝ }
 {
-    if window::window_start(window) <= (p as u64) {
-        match Physical(p as u64).offset(window) {
-            OffsetAnswer::Given(o) => return within_image(image, o),
-            OffsetAnswer::Refused(why) => return OffsetAnswer::Refused(why),
+    match Physical(p as u64).offset(window) {
+        OffsetAnswer::Given(o) => o.within(image),
+        OffsetAnswer::Refused(_) => {
+            if p < window {
+                return Offset(p).within(image);
+            }
+            OffsetAnswer::Refused(Refusal::OUTSIDE)
         }
-    }
-    if p < window {
-        return within_image(image, Offset(p));
-    }
-    OffsetAnswer::Refused(Refusal::OUTSIDE)
-}
-
-// An offset that does not lie beyond the image.
-fn within_image(image: &[u8], o: Offset) -> OffsetAnswer
-    ensures { λ r. ⌜ toldOffset r ≡ within (now (image .entry)) (o .0) (given o) ⌝ }
-{
-    if window::within(image, o.0 as usize) {
-        OffsetAnswer::Given(o)
-    } else {
-        OffsetAnswer::Refused(Refusal::OUTSIDE)
     }
 }

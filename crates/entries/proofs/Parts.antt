@@ -26,55 +26,55 @@ module _ (window : ℕ) (s : List ℕ) (o : ℕ) (e : Entry) where
   unfolding leadsTo
   lead-mode m = rw m
 
-  pub lead-physical : (r : Reply ℕ) (q : OffsetAnswer) (a : Offset) → e .mode ≡ 0 → q ≡ offsetAnswer.Given a → toldOffset q ≡ offsetIn window (e .location) → r ≡ placeIn s (a .0 + 0) → r ≡ leadsTo window s o e
+  pub lead-physical : (r : Reply Offset) (q : OffsetAnswer) (a : Offset) → e .mode ≡ 0 → q ≡ offsetAnswer.Given a → toldOffset q ≡ offsetIn window (e .location) → r ≡ placeIn s (a .0) → r ≡ leadsTo window s o e
   unfolding leadsTo
-  lead-physical r q a m g t h = let z : a .0 + 0 ≡ a .0 = omega arith in rw m ((rw z at h) ∙ then-told toldOffset (λ a. placeIn s (a .0)) g t)
+  lead-physical r q a m g t h = rw m (h ∙ then-told toldOffset (λ a. placeIn s (a .0)) g t)
 
   pub lead-outside : (q : OffsetAnswer) (why : Refusal) → e .mode ≡ 0 → q ≡ offsetAnswer.Refused why → toldOffset q ≡ offsetIn window (e .location) → refused (why .number) alone ≡ leadsTo window s o e
   unfolding leadsTo
   lead-outside q why m g t = rw m (then-told toldOffset (λ a. placeIn s (a .0)) g t)
 
-  pub lead-offset : (r : Reply ℕ) → e .mode ≡ 1 → r ≡ placeIn s (0 + e .location) → r ≡ leadsTo window s o e
+  pub lead-offset : (r : Reply Offset) → e .mode ≡ 1 → r ≡ placeIn s (0 + e .location) → r ≡ leadsTo window s o e
   unfolding leadsTo
   lead-offset r m h = let z : 0 + e .location ≡ e .location = omega arith in rw m (rw z at h)
 
-  pub lead-counted : (r : Reply ℕ) → (e .mode ≡ 3 → ⊥) → (e .mode ≡ 0 → ⊥) → (e .mode ≡ 1 → ⊥) → r ≡ placeIn s (o + e .location) → r ≡ leadsTo window s o e
+  pub lead-counted : (r : Reply Offset) → (e .mode ≡ 3 → ⊥) → (e .mode ≡ 0 → ⊥) → (e .mode ≡ 1 → ⊥) → r ≡ placeIn s (o + e .location) → r ≡ leadsTo window s o e
   unfolding leadsTo
   lead-counted r b c d h = rw (ne-eqb _ _ b, ne-eqb _ _ c, ne-eqb _ _ d) h
 
 pub ruleset lead-cases = (lead-mode, lead-physical, lead-outside, lead-offset, lead-counted)
 
 -- an offset that is given is the one asked for, and lies within the image
-pub within-fact : (s : List ℕ) (x p : ℕ) → placeIn s x ≡ given p → (x ≡ p) × (p ≤ length s)
+pub within-fact : (s : List ℕ) (x : ℕ) (p : Offset) → placeIn s x ≡ given p → (x ≡ p .0) × (p .0 ≤ length s)
 within-fact s x p e =
     let g = past (leb x (length s)) _ _ _ e in
     let b : x ≤ length s = leb-true _ _ (g .0) in
-    let q : x ≡ p = cc (g .1) in
+    let q : x ≡ p .0 = cc (g .1) in
     (q, omega arith)
 
 -- a part given lies in the image
-pub part-inside : (kind : Kind) (window : ℕ) (s : List ℕ) (d : Directory) (i : ℕ) (p : Part) → partIn kind window s d i ≡ given p → p .place + p .length ≤ length s
+pub part-inside : (kind : Kind) (window : ℕ) (s : List ℕ) (d : Directory) (i : ℕ) (p : Part) → partIn kind window s d i ≡ given p → p .place .0 + p .length ≤ length s
 unfolding partOf partWithin
 part-inside kind window s d i p e =
     let t = then-given (entryIn kind s d i) (partOf kind window s (d .place .0)) e in
     let f = t .0 in
     let g = past (not (eqb (f .class) (kind .value))) _ _ _ (t .2) in
     let u = then-given (leadsTo window s (d .place .0) f) (partWithin s (f .size)) (g .1) in
-    let h = past (leb (u .0 + f .size) (length s)) _ _ _ (u .2) in
-    let b : u .0 + f .size ≤ length s = leb-true _ _ (h .0) in
-    let q : u .0 ≡ p .place = cc (h .1) in
+    let h = past (leb (u .0 .0 + f .size) (length s)) _ _ _ (u .2) in
+    let b : u .0 .0 + f .size ≤ length s = leb-true _ _ (h .0) in
+    let q : u .0 .0 ≡ p .place .0 = cc (h .1) in
     let r : f .size ≡ p .length = cc (h .1) in
     omega arith
 
 -- so does a place that a location leads to
-pub lead-within : (window : ℕ) (s : List ℕ) (o : ℕ) (e : Entry) (p : ℕ) → leadsTo window s o e ≡ given p → p ≤ length s
+pub lead-within : (window : ℕ) (s : List ℕ) (o : ℕ) (e : Entry) (p : Offset) → leadsTo window s o e ≡ given p → p .0 ≤ length s
 unfolding leadsTo
 lead-within window s o e p h = by (eqb (e .mode) 0) (eqb (e .mode) 1) (past (not (eqb (e .mode) 3)) _ _ _ h .1)
   where
-    inside : (x : ℕ) → placeIn s x ≡ given p → p ≤ length s
+    inside : (x : ℕ) → placeIn s x ≡ given p → p .0 ≤ length s
     inside x q = within-fact s x p q .1
 
-    by : (b c : Bool) → cond b (then (offsetIn window (e .location)) (λ a. placeIn s (a .0))) (cond c (placeIn s (e .location)) (placeIn s (o + e .location))) ≡ given p → p ≤ length s
+    by : (b c : Bool) → cond b (then (offsetIn window (e .location)) (λ a. placeIn s (a .0))) (cond c (placeIn s (e .location)) (placeIn s (o + e .location))) ≡ given p → p .0 ≤ length s
     by true c q = let t = then-given (offsetIn window (e .location)) (λ a. placeIn s (a .0)) q in inside (t .0 .0) (t .2)
     by false true q = inside (e .location) q
     by false false q = inside (o + e .location) q

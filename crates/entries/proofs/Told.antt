@@ -4,7 +4,7 @@ use Prim.Native.Nat.{ℕ}
 use Rattle.reply.specs.Reply.{Reply, given, refused, alone, tested}
 use Rattle.reply.proofs.ReplyLaws.{one-by}
 use Rattle.entries.specs.Entry.{toldEntry, toldMatch}
-use Rattle.entries.specs.Part.{toldPlace, toldPart}
+use Rattle.entries.specs.Part.{toldPart}
 use Rattle.entries.specs.Good.{ToldApart}
 use Rattle.entries.specs.declared.Entry.{Entry}
 use Rattle.entries.specs.declared.EntryAnswer.{EntryAnswer}
@@ -12,8 +12,6 @@ use Rattle.entries.specs.declared.EntryAnswer.the-variants as entryAnswe
 use Rattle.entries.specs.declared.Match.{Match}
 use Rattle.entries.specs.declared.MatchAnswer.{MatchAnswer}
 use Rattle.entries.specs.declared.MatchAnswer.the-variants as matchAnswer
-use Rattle.entries.specs.declared.PlaceAnswer.{PlaceAnswer}
-use Rattle.entries.specs.declared.PlaceAnswer.the-variants as placeAnswer
 use Rattle.entries.specs.declared.Part.{Part}
 use Rattle.entries.specs.declared.PartAnswer.{PartAnswer}
 use Rattle.entries.specs.declared.PartAnswer.the-variants as partAnswer
@@ -38,15 +36,6 @@ lookup-back (matchAnswer.Given m) = refl
 lookup-back (matchAnswer.Absent n) = refl
 lookup-back (matchAnswer.Refused why) = refl
 
-placeBack : Reply ℕ → PlaceAnswer
-placeBack (given place) = placeAnswer.Given place
-placeBack (refused number carried) = placeAnswer.Refused (record { number = number })
-
-place-back : (x : PlaceAnswer) → placeBack (toldPlace x) ≡ x
-unfolding placeBack
-place-back (placeAnswer.Given place) = refl
-place-back (placeAnswer.Refused why) = refl
-
 partBack : Reply Part → PartAnswer
 partBack (given p) = partAnswer.Given p
 partBack (refused number carried) = partAnswer.Refused (record { number = number })
@@ -60,6 +49,5 @@ pub told-apart : ToldApart
 told-apart = record {
   entry = one-by toldEntry entryBack entry-back;
   lookup = one-by toldMatch lookupBack lookup-back;
-  place = one-by toldPlace placeBack place-back;
   part = one-by toldPart partBack part-back;
 }

@@ -26,7 +26,7 @@ fieldsAt image place = record {
   subprogram = get entry.subprogram image place;
   size = get entry.size image place;
   location = bitsBelow 62 (get entry.location image place);
-  mode = bitsFrom 62 (get entry.location image place);
+  mode = bitsBelow 2 (bitsFrom 62 (get entry.location image place));
 }
 
 -- the fields of entry i of a directory

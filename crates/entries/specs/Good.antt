@@ -4,14 +4,13 @@ use mathlib.Core.Path.{_≡_}
 use mathlib.Core.List.{List}
 use mathlib.Core.Bool.{false}
 use lib.ListN.{length}
-use Rattle.le.specs.Le.{Bytes}
 use Rattle.reply.specs.Reply.{Carried, given, refused, alone, tested, OneToOne}
 use Rattle.reply.specs.Scan.{Lowest, None}
 use Rattle.window.specs.Window.{fourGiB}
 use Rattle.window.specs.Inside.{Shown}
 use Rattle.directory.specs.Directory.{directoryAt}
-use Rattle.entries.specs.Entry.{fieldsAt, entryOf, entryIn, leadIn, findIn, toldEntry, toldMatch}
-use Rattle.entries.specs.Part.{partOf, partIn, toldPlace, toldPart}
+use Rattle.entries.specs.Entry.{entryOf, entryIn, leadIn, findIn, toldEntry, toldMatch}
+use Rattle.entries.specs.Part.{partOf, partIn, toldPart}
 use Rattle.directory.specs.declared.Kind.{Kind}
 use Rattle.directory.specs.declared.Directory.{Directory}
 use Rattle.entries.specs.declared.Entry.{Entry}
@@ -22,7 +21,6 @@ use Rattle.entries.specs.declared.Part.{Part}
 pub record ToldApart : Type 0 where
   pub entry : OneToOne toldEntry
   pub lookup : OneToOne toldMatch
-  pub place : OneToOne toldPlace
   pub part : OneToOne toldPart
 
 -- an entry is given exactly where the index is below the total; at or above it 8, whatever lies behind
@@ -74,16 +72,15 @@ pub data BeginsAt (window o : ℕ) (e : Entry) (place : ℕ) : Type 0 where
 -- the part p of the image holds the bytes of entry e
 pub record GoodPart (kind : Kind) (window : ℕ) (image : List ℕ) (o : ℕ) (e : Entry) (p : Part) : Type 0 where
   pub no-value : e .class ≡ kind .value → ⊥
-  pub begins : BeginsAt window o e (p .place)
+  pub begins : BeginsAt window o e (p .place .0)
   pub size : e .size ≡ p .length
-  pub inside : p .place + p .length ≤ length image
+  pub inside : p .place .0 + p .length ≤ length image
 
--- the part of entry i is given exactly where the index is below the total and the part good; its mode is of two bits, as that of an entry read from bytes is
+-- the part of entry i is given exactly where the index is below the total and the part good
 pub record PartAcceptance (kind : Kind) (window : ℕ) (image : List ℕ) (d : Directory) (i : ℕ) (p : Part) : Type 0 where
-  pub only : entryOf kind image d i .mode ≤ 3 → partIn kind window image d i ≡ given p → (i < d .total) × GoodPart kind window image (d .place .0) (entryOf kind image d i) p
+  pub only : partIn kind window image d i ≡ given p → (i < d .total) × GoodPart kind window image (d .place .0) (entryOf kind image d i) p
   pub all : i < d .total → GoodPart kind window image (d .place .0) (entryOf kind image d i) p → partIn kind window image d i ≡ given p
 
 -- so it is through every window that fits below 4 GiB
-pub record PartsAccepted : Type 0 where
-  pub every : (kind : Kind) (window : ℕ) (image : List ℕ) (d : Directory) (i : ℕ) (p : Part) → window ≤ fourGiB → PartAcceptance kind window image d i p
-  pub two-bits : (image : List ℕ) (place : ℕ) → Bytes image → fieldsAt image place .mode ≤ 3
+abbrev pub PartsAccepted : Type 0
+PartsAccepted = (kind : Kind) (window : ℕ) (image : List ℕ) (d : Directory) (i : ℕ) (p : Part) → window ≤ fourGiB → PartAcceptance kind window image d i p

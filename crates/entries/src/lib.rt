@@ -1,9 +1,12 @@
 // The entries of a directory: their fields, where their locations lead, and the lookup with its count.
 ghost use mathlib.Core.Path.{_≡_};
-ghost use Prim.Native.Nat.{_+_};
+ghost use Prim.Native.Nat.{_+_, _≤_};
+ghost use lib.ListN.{length};
+ghost use Rattle.window.specs.Window.{toldOffset};
+ghost use Rattle.window.specs.Length.{longest, sized};
 ghost use Rattle.directory.specs.Directory.{entryPlace, classAt};
 ghost use Rattle.entries.specs.Entry.{fieldsAt, entryIn, toldEntry, leadIn, matches, holdsIn, findIn, toldMatch};
-ghost use Rattle.entries.specs.Part.{placeIn, leadsTo, toldPlace, partWithin, partOf, partIn, toldPart, bytesOf, beginOf};
+ghost use Rattle.entries.specs.Part.{placeIn, leadsTo, partWithin, partOf, partIn, toldPart, bytesOf, beginOf};
 use directory::Directory;
 use directory::Kind;
 use reply::Refusal;
@@ -37,7 +40,7 @@ fn fields_at(image: &[u8], kind: Kind, at: Offset, i: u32) -> Entry
         subprogram: le::u8_at(image, place + Kind::SUBPROGRAM),
         size: le::u32_at(image, place + Kind::SIZE),
         location: word % 0x4000_0000_0000_0000,
-        mode: (word / 0x4000_0000_0000_0000) as u8,
+        mode: (word / 0x4000_0000_0000_0000 % 4) as u8,
     }
 }
 
@@ -45,8 +48,8 @@ fn fields_at(image: &[u8], kind: Kind, at: Offset, i: u32) -> Entry
 pub fn entry_in(image: &[u8], kind: Kind, d: Directory, i: usize) -> EntryAnswer
     ensures { λ r. ⌜ toldEntry r ≡ entryIn kind (now (image .entry)) d i ⌝ }
 {
-    if i < (d.total as usize) {
-        EntryAnswer::Given(fields_at(image, kind, d.place, i as u32))
+    if i < (d.total() as usize) {
+        EntryAnswer::Given(fields_at(image, kind, d.place(), i as u32))
     } else {
         EntryAnswer::Refused(Refusal::ABSENT)
     }
@@ -63,11 +66,12 @@ pub fn class_at(image: &[u8], kind: Kind, at: Offset, i: u32) -> u8
 pub fn lead_in(image: &[u8], kind: Kind, d: Directory) -> EntryAnswer
     ensures { λ r. ⌜ toldEntry r ≡ leadIn kind (now (image .entry)) d ⌝ }
 {
-    let n = d.total;
+    let n = d.total();
+    let at = d.place();
     let mut i: u32 = 0;
     while i < n {
-        if class_at(image, kind, d.place, i) == kind.lead {
-            return EntryAnswer::Given(fields_at(image, kind, d.place, i));
+        if class_at(image, kind, at, i) == kind.lead {
+            return EntryAnswer::Given(fields_at(image, kind, at, i));
         }
         i += 1;
     }
@@ -114,10 +118,11 @@ pub fn entry_matches(image: &[u8], kind: Kind, at: Offset, i: u32, class: u8, su
 pub fn find_in(image: &[u8], kind: Kind, d: Directory, class: u8, sub: u8) -> MatchAnswer
     ensures { λ r. ⌜ toldMatch r ≡ findIn kind (now (image .entry)) d class sub ⌝ }
 {
-    let n = d.total;
+    let n = d.total();
+    let at = d.place();
     let mut i: u32 = 0;
     while i < n {
-        if entry_matches(image, kind, d.place, i, class, sub) {
+        if entry_matches(image, kind, at, i, class, sub) {
             return MatchAnswer::Given(Match {
                 index: i,
                 tested: i + 1,
@@ -139,38 +144,34 @@ pub fn holds_in(image: &[u8], kind: Kind, d: Directory, class: u8, sub: u8) -> b
     }
 }
 
-// Where a location leads: a place in the image, counted from its first byte.
-pub enum PlaceAnswer {
-    Given(usize),
-    Refused(Refusal),
-}
-
-// The place so many bytes behind another, where it does not lie beyond the image.
-fn place_in(image: &[u8], base: u32, location: u64) -> PlaceAnswer
-    ensures { λ r. ⌜ toldPlace r ≡ placeIn (now (image .entry)) (base + location) ⌝ }
+// The place so many bytes behind another, where it does not lie beyond an image of a length that is allowed.
+fn place_in(image: &[u8], base: u32, location: u64) -> OffsetAnswer
+    requires { ⌜ length (now image) ≤ longest ⌝ }
+    ensures { λ r. ⌜ toldOffset r ≡ placeIn (now (image .entry)) (base + location) ⌝ }
 {
     let from = location as usize;
     let base = base as usize;
     if image.len() < from {
-        return PlaceAnswer::Refused(Refusal::OUTSIDE);
+        return OffsetAnswer::Refused(Refusal::OUTSIDE);
     }
     if image.len() - from < base {
-        return PlaceAnswer::Refused(Refusal::OUTSIDE);
+        return OffsetAnswer::Refused(Refusal::OUTSIDE);
     }
-    PlaceAnswer::Given(base + from)
+    OffsetAnswer::Given(Offset((base + from) as u32))
 }
 
-// Where the location of an entry leads, in a directory at an offset, through a window of so many bytes.
-pub fn leads_to(image: &[u8], window: u32, at: Offset, e: Entry) -> PlaceAnswer
-    ensures { λ r. ⌜ toldPlace r ≡ leadsTo window (now (image .entry)) (at .0) e ⌝ }
+// Where the location of an entry leads, in an image of a length that is allowed.
+fn place_of(image: &[u8], window: u32, at: Offset, e: Entry) -> OffsetAnswer
+    requires { ⌜ length (now image) ≤ longest ⌝ }
+    ensures { λ r. ⌜ toldOffset r ≡ leadsTo window (now (image .entry)) (at .0) e ⌝ }
 {
     if e.mode == 3 {
-        return PlaceAnswer::Refused(Refusal::MODE);
+        return OffsetAnswer::Refused(Refusal::MODE);
     }
     if e.mode == 0 {
         match Physical(e.location).offset(window) {
-            OffsetAnswer::Given(o) => return place_in(image, o.0, 0),
-            OffsetAnswer::Refused(why) => return PlaceAnswer::Refused(why),
+            OffsetAnswer::Given(o) => return o.within(image),
+            OffsetAnswer::Refused(why) => return OffsetAnswer::Refused(why),
         }
     }
     if e.mode == 1 {
@@ -179,9 +180,20 @@ pub fn leads_to(image: &[u8], window: u32, at: Offset, e: Entry) -> PlaceAnswer
     place_in(image, at.0, e.location)
 }
 
+// Where the location of an entry leads, in a directory at an offset, through a window of so many bytes.
+pub fn leads_to(image: &[u8], window: u32, at: Offset, e: Entry) -> OffsetAnswer
+    ensures { λ r. ⌜ toldOffset r ≡ sized (now (image .entry)) (leadsTo window (now (image .entry)) (at .0) e) ⌝ }
+{
+    if window::length_allowed(image) {
+        place_of(image, window, at, e)
+    } else {
+        OffsetAnswer::Refused(Refusal::IMAGE)
+    }
+}
+
 // A part of the image: where it begins, and its length.
 pub struct Part {
-    pub place: usize,
+    pub place: Offset,
     pub length: usize,
 }
 
@@ -192,14 +204,11 @@ pub enum PartAnswer {
 }
 
 // The part of so many bytes at a place, where it ends within the image.
-fn part_within(image: &[u8], place: usize, size: u32) -> PartAnswer
+fn part_within(image: &[u8], place: Offset, size: u32) -> PartAnswer
     ensures { λ r. ⌜ toldPart r ≡ partWithin (now (image .entry)) size place ⌝ }
 {
     let length = size as usize;
-    if image.len() < place {
-        return PartAnswer::Refused(Refusal::OUTSIDE);
-    }
-    if image.len() - place < length {
+    if image.len() < (place.0 as usize) + length {
         return PartAnswer::Refused(Refusal::OUTSIDE);
     }
     PartAnswer::Given(Part {
@@ -208,37 +217,50 @@ fn part_within(image: &[u8], place: usize, size: u32) -> PartAnswer
     })
 }
 
-// Where an entry's bytes lie.
+// Where an entry's bytes lie, in an image of a length that is allowed.
 fn part_of(image: &[u8], kind: Kind, window: u32, at: Offset, e: Entry) -> PartAnswer
+    requires { ⌜ length (now image) ≤ longest ⌝ }
     ensures { λ r. ⌜ toldPart r ≡ partOf kind window (now (image .entry)) (at .0) e ⌝ }
 {
     if (e.class as u16) == kind.value {
         return PartAnswer::Refused(Refusal::VALUE);
     }
-    match leads_to(image, window, at, e) {
-        PlaceAnswer::Given(place) => part_within(image, place, e.size),
-        PlaceAnswer::Refused(why) => PartAnswer::Refused(why),
+    match place_of(image, window, at, e) {
+        OffsetAnswer::Given(place) => part_within(image, place, e.size),
+        OffsetAnswer::Refused(why) => PartAnswer::Refused(why),
+    }
+}
+
+// Where the bytes of entry i lie, in such an image.
+fn part_sized(image: &[u8], kind: Kind, window: u32, d: Directory, i: usize) -> PartAnswer
+    requires { ⌜ length (now image) ≤ longest ⌝ }
+    ensures { λ r. ⌜ toldPart r ≡ partIn kind window (now (image .entry)) d i ⌝ }
+{
+    match entry_in(image, kind, d, i) {
+        EntryAnswer::Given(e) => part_of(image, kind, window, d.place(), e),
+        EntryAnswer::Refused(why) => PartAnswer::Refused(why),
     }
 }
 
 // Where the bytes of entry i of a directory lie, or why there are none.
 pub fn part_in(image: &[u8], kind: Kind, window: u32, d: Directory, i: usize) -> PartAnswer
-    ensures { λ r. ⌜ toldPart r ≡ partIn kind window (now (image .entry)) d i ⌝ }
+    ensures { λ r. ⌜ toldPart r ≡ sized (now (image .entry)) (partIn kind window (now (image .entry)) d i) ⌝ }
 {
-    match entry_in(image, kind, d, i) {
-        EntryAnswer::Given(e) => part_of(image, kind, window, d.place, e),
-        EntryAnswer::Refused(why) => PartAnswer::Refused(why),
+    if window::length_allowed(image) {
+        part_sized(image, kind, window, d, i)
+    } else {
+        PartAnswer::Refused(Refusal::IMAGE)
     }
 }
 
 // The bytes of entry i of a directory: that part of the caller's image. Where refused there are none, and `part_in` gives the number.
 pub fn bytes_in<'a>(image: &'a [u8], kind: Kind, window: u32, d: Directory, i: usize) -> &'a [u8]
-    ensures { λ r. ⌜ now r ≡ bytesOf (now (image .entry)) (partIn kind window (now (image .entry)) d i) ⌝ }
-    ensures { λ r. ⌜ r .ptr ≡ beginOf (image .entry .ptr) (partIn kind window (now (image .entry)) d i) ⌝ }
+    ensures { λ r. ⌜ now r ≡ bytesOf (now (image .entry)) (sized (now (image .entry)) (partIn kind window (now (image .entry)) d i)) ⌝ }
+    ensures { λ r. ⌜ r .ptr ≡ beginOf (image .entry .ptr) (sized (now (image .entry)) (partIn kind window (now (image .entry)) d i)) ⌝ }
 {
     match part_in(image, kind, window, d, i) {
         PartAnswer::Given(p) => {
-            let start = p.place;
+            let start = p.place.0 as usize;
             let end = start + p.length;
             &image[start..end]
         }

@@ -50,9 +50,9 @@ fn show_directory(buf: &[u8]) {
     match directory::directory_by_cookie(buf, directory::psp_kind(), 512, Offset(0)) {
         DirectoryAnswer::Given(d) => {
             io::write_all(1, b"ok level=");
-            io::print_decimal(1, d.level as u64);
+            io::print_decimal(1, d.level() as u64);
             io::write_all(1, b" total=");
-            io::print_decimal(1, d.total as u64);
+            io::print_decimal(1, d.total() as u64);
             show_number(b" checksum", le::u32_at(buf, 4) as u64);
             show_number(b" behind", le::u64_at(buf, 64));
             io::write_all(1, b"\n");

@@ -75,7 +75,7 @@ fn three_entries() {
 
 fn show_directory(buf: &[u8]) {
     match directory::directory_by_cookie(buf, directory::psp_kind(), 512, Offset(0)) {
-        directory::DirectoryAnswer::Given(d) => show_total(d.total),
+        directory::DirectoryAnswer::Given(d) => show_total(d.total()),
         directory::DirectoryAnswer::Refused(why) => show_refusal(why),
     }
 }
@@ -136,10 +136,11 @@ fn range_of(size: u32) {
     };
     show_built(build::start(&mut image, 1));
     show_built(build::extend(&mut image, entry));
-    match place::part_at(&image, 0, 0) {
+    match place::part_at(&image, Offset(0), 0) {
         PartAnswer::Given(p) => {
+            let begin = p.place;
             show(b"ok place=0x");
-            io::print_hex(STDOUT_FILENO, p.place as u64, 1);
+            io::print_hex(STDOUT_FILENO, begin.0 as u64, 1);
             show(b" length=");
             io::print_decimal(STDOUT_FILENO, p.length as u64);
             show(b"\n");

@@ -4,10 +4,10 @@ use mathlib.Core.List.{List}
 use Prim.Native.Nat.{ℕ, _≤_}
 use native.Mathlib.Omega.{arith}
 use lib.ListN.{length}
-use Rattle.le.specs.Le.{Bytes}
 use Rattle.reply.specs.Reply.{Reply, given, then}
 use Rattle.reply.proofs.ReplyLaws.{then-given}
 use Rattle.window.specs.Window.{fourGiB}
+use Rattle.window.specs.declared.Offset.{Offset}
 use Rattle.directory.specs.Directory.{directoryAt}
 use Rattle.entries.specs.Entry.{entryOf, leadIn}
 use Rattle.entries.specs.Part.{leadsTo}
@@ -17,9 +17,10 @@ use Rattle.directory.specs.declared.Directory.{Directory}
 use Rattle.entries.specs.declared.Entry.{Entry}
 use Rattle.directory.proofs.Accept.{acceptance}
 use Rattle.entries.proofs.Lowest.{lowest-lead}
-use Rattle.entries.proofs.PartAccept.{lead-fact, lead-given, parts-accepted}
+use Rattle.entries.proofs.PartAccept.{two-bits, lead-fact, lead-given}
 use Rattle.efs.specs.Efs.{pointerIn}
-use Rattle.efs.specs.Good.{GoodLength, GoodPointer}
+use Rattle.window.specs.Inside.{GoodLength}
+use Rattle.efs.specs.Good.{GoodPointer}
 use Rattle.efs.specs.declared.Rules.{Rules}
 use Rattle.efs.specs.declared.Pointer.{Pointer}
 use Rattle.efs.proofs.Accept.{pointer-acceptance}
@@ -49,28 +50,28 @@ module _ (r : Rules) (s : List ℕ) (d : Directory) where
       ∙ at-level 1 (g .level) (g .directory)
 
 module _ (r : Rules) (fits : r .window ≤ fourGiB) (s : List ℕ) (d above : Directory) where
-  only-two : Bytes s → levelOne r s ≡ given above → levelTwo r s above ≡ given d → GoodTwo r s d
-  only-two bytes a e =
+  only-two : levelOne r s ≡ given above → levelTwo r s above ≡ given d → GoodTwo r s d
+  only-two a e =
       let k = then-given (leadIn (r .kind) s above) (levelTwoAt r s (above .place .0)) e in
-      let p = then-given (leadsTo (r .window) s (above .place .0) (k .0)) (directoryAt (r .kind) (r .limit) 2 s) (k .2) in
+      let p = then-given (leadsTo (r .window) s (above .place .0) (k .0)) (λ p. directoryAt (r .kind) (r .limit) 2 s (p .0)) (k .2) in
       let l = lowest-lead .found-only (r .kind) s above (k .0) (k .1) in
-      let g = acceptance .only (r .kind) (r .limit) 2 s (p .0) d (p .2) in
+      let g = acceptance .only (r .kind) (r .limit) 2 s (p .0 .0) d (p .2) in
       let q : leadsTo (r .window) s (above .place .0) (entryOf (r .kind) s above (l .0)) ≡ given (p .0) = ap (leadsTo (r .window) s (above .place .0)) (l .2) ∙ p .1 in
-      let b = lead-fact (r .window) fits s (above .place .0) (entryOf (r .kind) s above (l .0)) (p .0) (parts-accepted .two-bits s _ bytes) q in
+      let b = lead-fact (r .window) fits s (above .place .0) (entryOf (r .kind) s above (l .0)) (p .0) (two-bits s _) q in
       record { above = above; one = only-one r s above fits a; lead = l .0; leads = l .1; begins = subst (BeginsAt (r .window) (above .place .0) (entryOf (r .kind) s above (l .0))) (sym (g .1)) (b .0); directory = g .0; level = g .2 }
 
 all-two : (r : Rules) (fits : r .window ≤ fourGiB) (s : List ℕ) (d : Directory) (g : GoodTwo r s d) → levelTwo r s (g .above) ≡ given d
 all-two r fits s d g =
     ap (λ (x : Reply Entry). then x (levelTwoAt r s (g .above .place .0))) (lowest-lead .found (r .kind) s (g .above) (g .lead) (g .leads))
-    ∙ ap (λ (x : Reply ℕ). then x (directoryAt (r .kind) (r .limit) 2 s)) (lead-given (r .window) fits s (g .above .place .0) (entryOf (r .kind) s (g .above) (g .lead)) (d .place .0) (g .begins) (begins r s d (g .directory)))
+    ∙ ap (λ (x : Reply Offset). then x (λ p. directoryAt (r .kind) (r .limit) 2 s (p .0))) (lead-given (r .window) fits s (g .above .place .0) (entryOf (r .kind) s (g .above) (g .lead)) (d .place) (g .begins) (begins r s d (g .directory)))
     ∙ at-level r s d 2 (g .level) (g .directory)
 
-only-level : (r : Rules) (level : ℕ) (s : List ℕ) (d : Directory) → r .window ≤ fourGiB → Bytes s → flashDirectory r level s ≡ given d → GoodLength s × GoodLevel r s d level
-only-level r level s d fits bytes e = let o = opened r s d level e in (o .0, by (o .1))
+only-level : (r : Rules) (level : ℕ) (s : List ℕ) (d : Directory) → r .window ≤ fourGiB → flashDirectory r level s ≡ given d → GoodLength s × GoodLevel r s d level
+only-level r level s d fits e = let o = opened r s d level e in (o .0, by (o .1))
   where
     by : {l : ℕ} → Opened r s d l → GoodLevel r s d l
     by (one q) = of-one (only-one r s d fits q)
-    by (two above a q) = of-two (only-two r fits s d above bytes a q)
+    by (two above a q) = of-two (only-two r fits s d above a q)
 
 all-level : (r : Rules) (level : ℕ) (s : List ℕ) (d : Directory) → r .window ≤ fourGiB → GoodLength s → GoodLevel r s d level → flashDirectory r level s ≡ given d
 all-level r level s d fits z g = by g

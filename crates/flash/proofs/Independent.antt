@@ -23,7 +23,7 @@ use Rattle.efs.specs.declared.Efs.{Efs}
 use Rattle.efs.specs.declared.Pointer.{Pointer}
 use Rattle.efs.specs.declared.Rules.{Rules}
 use Rattle.flash.specs.Flash.{levelOne, levelTwo, levelTwoAt, flashDirectory, flashEntry, flashPart, fromLookup, flashFind}
-use Rattle.efs.specs.Good.{GoodLength}
+use Rattle.window.specs.Inside.{GoodLength}
 use Rattle.flash.specs.Independent.{SameWay, SameAnswers, FlashIndependence}
 use Rattle.flash.proofs.Ways.{Opened, one, two, opened, open-one, open-two}
 
@@ -73,13 +73,13 @@ module _ (r : Rules) (level : ℕ) (s t : List ℕ) (wide : 16 ≤ r .kind .entr
       by l q z (one e) = open-one r t d (long z) (same-one z d (omega arith) e)
       by l q z (two above a e) =
           let k = then-given (leadIn (r .kind) s above) (levelTwoAt r s (above .place .0)) e in
-          let p = then-given (leadsTo (r .window) s (above .place .0) (k .0)) (directoryAt (r .kind) (r .limit) 2 s) (k .2) in
+          let p = then-given (leadsTo (r .window) s (above .place .0) (k .0)) (λ p. directoryAt (r .kind) (r .limit) 2 s (p .0)) (k .2) in
           let lead = sym (entries-independence (r .kind) s t above wide (way .directories 1 (omega arith) above (open-one r s above z a)) .lead) ∙ k .1 in
           let place = sym (leads-same (r .window) s t (way .long) (above .place .0) (k .0)) ∙ p .1 in
           open-two r t d (long z) above (same-one z above (omega arith) a)
           (ap (λ (x : Reply Entry). then x (levelTwoAt r t (above .place .0))) lead
-          ∙ ap (λ (x : Reply ℕ). then x (directoryAt (r .kind) (r .limit) 2 t)) place
-          ∙ given-same r 2 s t (p .0) d wide (way .directories 2 (omega arith) d (open-two r s d z above a e)) (p .2))
+          ∙ ap (λ (x : Reply Offset). then x (λ p. directoryAt (r .kind) (r .limit) 2 t (p .0))) place
+          ∙ given-same r 2 s t (p .0 .0) d wide (way .directories 2 (omega arith) d (open-two r s d z above a e)) (p .2))
 
   -- whatever is asked of the directory
   same-after : {B : Type 0} (f : List ℕ → Directory → Reply B) (d : Directory) → flashDirectory r level s ≡ given d → (Agree s t (d .place .0) (endOf (r .kind) d) → f s d ≡ f t d) →

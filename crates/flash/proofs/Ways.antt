@@ -15,9 +15,9 @@ use Rattle.entries.specs.Part.{leadsTo}
 use Rattle.directory.specs.declared.Directory.{Directory}
 use Rattle.directory.proofs.Accept.{acceptance}
 use Rattle.efs.specs.Efs.{pointerIn}
-use Rattle.efs.specs.Good.{GoodLength}
+use Rattle.window.specs.Inside.{GoodLength}
 use Rattle.efs.specs.declared.Rules.{Rules}
-use Rattle.efs.proofs.Length.{sized-passed, sized-past}
+use Rattle.window.proofs.Length.{sized-passed, sized-past}
 use Rattle.flash.specs.Flash.{levelOne, levelTwoAt, levelTwo, levelOf, flashDirectory}
 
 -- the two ways to a directory
@@ -62,5 +62,5 @@ opened-small r s d level e = let o = opened r s d level e in (o .0, by (o .1))
         acceptance .only (r .kind) (r .limit) 1 s (t .0 .place .0) d (t .2) .0 .few
     by (two above a q) =
         let k = then-given (leadIn (r .kind) s above) (levelTwoAt r s (above .place .0)) q in
-        let t = then-given (leadsTo (r .window) s (above .place .0) (k .0)) (directoryAt (r .kind) (r .limit) 2 s) (k .2) in
-        acceptance .only (r .kind) (r .limit) 2 s (t .0) d (t .2) .0 .few
+        let t = then-given (leadsTo (r .window) s (above .place .0) (k .0)) (λ p. directoryAt (r .kind) (r .limit) 2 s (p .0)) (k .2) in
+        acceptance .only (r .kind) (r .limit) 2 s (t .0 .0) d (t .2) .0 .few

@@ -7,7 +7,7 @@ use Rattle.reply.specs.Reply.{Reply, given, refused, tested, guard, then}
 use Rattle.directory.specs.Directory.{directoryAt}
 use Rattle.entries.specs.Entry.{entryIn, leadIn, findIn}
 use Rattle.entries.specs.Part.{leadsTo, partIn}
-use Rattle.efs.specs.Rules.{sized}
+use Rattle.window.specs.Length.{sized}
 use Rattle.efs.specs.Efs.{pointerIn}
 use Rattle.directory.specs.declared.Directory.{Directory}
 use Rattle.efs.specs.declared.Rules.{Rules}
@@ -21,7 +21,7 @@ levelOne r image = then (pointerIn r image) (λ p. directoryAt (r .kind) (r .lim
 
 -- the directory of level two that entry e of a directory at o leads to
 abbrev pub levelTwoAt : Rules → (image : List ℕ) → (o : ℕ) → Entry → Reply Directory
-levelTwoAt r image o e = then (leadsTo (r .window) image o e) (directoryAt (r .kind) (r .limit) 2 image)
+levelTwoAt r image o e = then (leadsTo (r .window) image o e) (λ place. directoryAt (r .kind) (r .limit) 2 image (place .0))
 
 -- the directory of level two: where level one leads by its lowest entry of type 0x40; none: 8
 abbrev pub levelTwo : Rules → (image : List ℕ) → Directory → Reply Directory

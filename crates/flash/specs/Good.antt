@@ -2,14 +2,14 @@
 use Prim.Native.Nat.{ℕ, _≤_}
 use mathlib.Core.Path.{_≡_}
 use mathlib.Core.List.{List}
-use Rattle.le.specs.Le.{Bytes}
 use Rattle.reply.specs.Reply.{given}
 use Rattle.reply.specs.Scan.{Lowest}
 use Rattle.window.specs.Window.{fourGiB}
 use Rattle.entries.specs.Entry.{entryOf}
 use Rattle.directory.specs.Good.{GoodDirectory}
 use Rattle.entries.specs.Good.{Leads, BeginsAt}
-use Rattle.efs.specs.Good.{GoodLength, GoodPointer}
+use Rattle.window.specs.Inside.{GoodLength}
+use Rattle.efs.specs.Good.{GoodPointer}
 use Rattle.directory.specs.declared.Directory.{Directory}
 use Rattle.efs.specs.declared.Rules.{Rules}
 use Rattle.flash.specs.Flash.{flashDirectory}
@@ -35,9 +35,9 @@ pub data GoodLevel (r : Rules) (image : List ℕ) (d : Directory) : ℕ → Type
   of-one : GoodOne r image d → GoodLevel r image d 1
   of-two : GoodTwo r image d → GoodLevel r image d 2
 
--- the directory of a level is given exactly where it is good, in an image of bytes
+-- the directory of a level is given exactly where it is good
 pub record FlashAcceptance (r : Rules) (level : ℕ) (image : List ℕ) (d : Directory) : Type 0 where
-  pub only : Bytes image → flashDirectory r level image ≡ given d → GoodLength image × GoodLevel r image d level
+  pub only : flashDirectory r level image ≡ given d → GoodLength image × GoodLevel r image d level
   pub all : GoodLength image → GoodLevel r image d level → flashDirectory r level image ≡ given d
 
 -- so it is by all rules with a window that fits below 4 GiB

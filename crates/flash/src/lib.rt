@@ -1,12 +1,12 @@
 // The calls on a flash image from its directory pointer on: the directories of both levels, their entries, their bytes, and the lookup in one of them.
 ghost use mathlib.Core.Path.{_≡_};
-ghost use Prim.Native.Nat.{_≤_};
-ghost use lib.ListN.{length};
 ghost use Rattle.reply.specs.Reply.{refused, alone};
 ghost use Rattle.directory.specs.Directory.{toldDirectory};
 ghost use Rattle.entries.specs.Entry.{toldEntry, toldMatch};
 ghost use Rattle.entries.specs.Part.{toldPart, bytesOf, beginOf};
-ghost use Rattle.efs.specs.Rules.{baseRules, longest, sized};
+ghost use mathlib.Core.Bool.{true};
+ghost use Rattle.window.specs.Length.{lengthAllowed, sized};
+ghost use Rattle.efs.specs.Rules.{baseRules};
 ghost use Rattle.flash.specs.Flash.{levelOne, levelTwoAt, levelTwo, levelOf, flashDirectory, flashEntry, flashPart, fromLookup, flashFind};
 use directory::Directory;
 use directory::DirectoryAnswer;
@@ -16,9 +16,9 @@ use entries::Entry;
 use entries::EntryAnswer;
 use entries::MatchAnswer;
 use entries::PartAnswer;
-use entries::PlaceAnswer;
 use reply::Refusal;
 use window::Offset;
+use window::OffsetAnswer;
 
 // The directory of a level: its place, its level and its total.
 pub fn directory(image: &[u8], level: u32) -> DirectoryAnswer
@@ -92,7 +92,7 @@ fn flash_directory(image: &[u8], rules: Rules, level: u32) -> DirectoryAnswer
     if 2 < level {
         return DirectoryAnswer::Refused(Refusal::RANGE);
     }
-    if efs::length_allowed(image) {
+    if window::length_allowed(image) {
         level_of(image, rules, level)
     } else {
         DirectoryAnswer::Refused(Refusal::IMAGE)
@@ -101,7 +101,7 @@ fn flash_directory(image: &[u8], rules: Rules, level: u32) -> DirectoryAnswer
 
 // The directory of level one or two, in an image of a length that is allowed.
 fn level_of(image: &[u8], rules: Rules, level: u32) -> DirectoryAnswer
-    requires { ⌜ length (now image) ≤ longest ⌝ }
+    requires { ⌜ lengthAllowed (now image) ≡ true ⌝ }
     ensures { λ r. ⌜ toldDirectory r ≡ levelOf rules level (now (image .entry)) ⌝ }
 {
     if level == 1 {
@@ -131,39 +131,27 @@ fn level_one(image: &[u8], rules: Rules) -> DirectoryAnswer
 
 // The directory of level two, by the lowest lead of level one, in an image of a length that is allowed.
 fn level_two(image: &[u8], rules: Rules, d: Directory) -> DirectoryAnswer
-    requires { ⌜ length (now image) ≤ longest ⌝ }
+    requires { ⌜ lengthAllowed (now image) ≡ true ⌝ }
     ensures { λ r. ⌜ toldDirectory r ≡ levelTwo rules (now (image .entry)) d ⌝ }
 {
     match entries::lead_in(image, rules.kind, d) {
-        EntryAnswer::Given(e) => level_two_led(image, rules, d.place, e),
+        EntryAnswer::Given(e) => level_two_at(image, rules, d.place(), e),
         EntryAnswer::Refused(why) => DirectoryAnswer::Refused(why),
     }
 }
 
-// The directory of level two that an entry of the directory at an offset leads to, in an image of a length that is allowed.
-fn level_two_led(image: &[u8], rules: Rules, at: Offset, e: Entry) -> DirectoryAnswer
-    requires { ⌜ length (now image) ≤ longest ⌝ }
-    ensures { λ r. ⌜ toldDirectory r ≡ levelTwoAt rules (now (image .entry)) (at .0) e ⌝ }
+// The directory of level two that an entry of the directory at an offset leads to.
+pub fn level_two_at(image: &[u8], rules: Rules, at: Offset, e: Entry) -> DirectoryAnswer
+    ensures { λ r. ⌜ toldDirectory r ≡ sized (now (image .entry)) (levelTwoAt rules (now (image .entry)) (at .0) e) ⌝ }
 {
     match entries::leads_to(image, rules.window, at, e) {
-        PlaceAnswer::Given(place) => directory::directory_at(
+        OffsetAnswer::Given(place) => directory::directory_at(
             image,
             rules.kind,
             rules.limit,
             2,
-            Offset(place as u32),
+            place,
         ),
-        PlaceAnswer::Refused(why) => DirectoryAnswer::Refused(why),
-    }
-}
-
-// The same in any image.
-pub fn level_two_at(image: &[u8], rules: Rules, at: Offset, e: Entry) -> DirectoryAnswer
-    ensures { λ r. ⌜ toldDirectory r ≡ sized (now (image .entry)) (levelTwoAt rules (now (image .entry)) (at .0) e) ⌝ }
-{
-    if efs::length_allowed(image) {
-        level_two_led(image, rules, at, e)
-    } else {
-        DirectoryAnswer::Refused(Refusal::IMAGE)
+        OffsetAnswer::Refused(why) => DirectoryAnswer::Refused(why),
     }
 }

@@ -32,7 +32,7 @@ layEntry e = e .class ∷ e .subprogram ∷ e .size ∷ e .location ∷ e .mode 
 
 -- a part: where it begins, and its length
 abbrev pub layPart : Part → List ℕ
-layPart p = p .place ∷ p .length ∷ []
+layPart p = p .place .0 ∷ p .length ∷ []
 
 -- a match in a directory: its index, and how many entries were tested
 abbrev pub layMatch : Match → List ℕ

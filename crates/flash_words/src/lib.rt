@@ -58,8 +58,10 @@ pub fn directory(image: &[u8], level: u32, words: &mut [u64]) -> u64
 {
     match flash::directory(image, level) {
         DirectoryAnswer::Given(d) => {
-            let place = d.place;
-            let values = [place.0 as u64, d.level as u64, d.total as u64];
+            let place = d.place();
+            let level = d.level();
+            let total = d.total();
+            let values = [place.0 as u64, level as u64, total as u64];
             lent::put(words, 0, &values)
         }
         DirectoryAnswer::Refused(why) => why.number as u64,
@@ -112,7 +114,9 @@ pub fn part(image: &[u8], level: u32, index: u64, words: &mut [u64]) -> u64
 {
     match flash::part(image, level, index as usize) {
         PartAnswer::Given(p) => {
-            let values = [p.place as u64, p.length as u64];
+            let place = p.place.0 as u64;
+            let length = p.length as u64;
+            let values = [place, length];
             lent::put(words, 0, &values)
         }
         PartAnswer::Refused(why) => why.number as u64,

@@ -1,15 +1,14 @@
 -- The directory at a place is given exactly where it is good, a view of a level answers as the calls on that level do, and bytes are a part of the image. Assumes nothing.
 use mathlib.Core.Path.{_≡_, refl, sym, ap, subst, _∙_}
-use mathlib.Core.Logic.{_⊎_, inl, inr}
 use mathlib.Core.List.{List}
-use mathlib.Core.Bool.{not}
-use Prim.Native.Nat.{ℕ, _+_, _≤_}
+use mathlib.Core.Bool.{Bool, true, false, not, cond}
+use Prim.Native.Nat.{ℕ, _+_, _<_, _≤_}
 use native.Mathlib.Omega.{arith}
-use borrow.Author.Tests.{le-leb}
+use borrow.Author.Tests.{le-leb, lt-leb, leb-false}
 use lib.ListN.{length}
 use lib.Dec.{leb, eqb}
-use Rattle.reply.specs.Reply.{Reply, Carried, given, refused, alone, then}
-use Rattle.reply.proofs.ReplyLaws.{past, passed, then-given}
+use Rattle.reply.specs.Reply.{Reply, Carried, given, refused, alone, guard, then}
+use Rattle.reply.proofs.ReplyLaws.{past, passed, failed, then-given}
 use Rattle.directory.specs.Directory.{directoryAt, directoryByCookie}
 use Rattle.entries.specs.Entry.{entryIn, leadIn}
 use Rattle.entries.specs.Part.{leadsTo, partWithin, partOf, partIn, bytesOf, beginOf}
@@ -19,14 +18,16 @@ use Rattle.entries.specs.declared.Part.{Part}
 use Rattle.directory.proofs.Accept.{only-good, cookie-acceptance}
 use Rattle.entries.proofs.Parts.{part-inside}
 use Rattle.efs.specs.Efs.{pointerIn}
-use Rattle.efs.specs.Good.{GoodLength}
+use Rattle.window.specs.Inside.{GoodLength}
 use Rattle.efs.specs.Rules.{baseRules}
 use Rattle.efs.specs.declared.Rules.{Rules}
 use Rattle.flash.specs.Flash.{flashDirectory, flashPart}
-use Rattle.efs.proofs.Length.{sized-passed, sized-past}
+use Rattle.window.specs.Window.{nearestTo, within}
+use Rattle.window.specs.Length.{longest, lengthAllowed}
+use Rattle.window.proofs.Length.{allowed-fact, sized-passed, sized-past}
 use Rattle.flash.proofs.Ways.{Opened, one, two, opened}
 use Rattle.place.specs.Place.{checkAt, entryAt, partAt, heldBytes, heldPlace, viewImage, viewPlace, partThrough}
-use Rattle.place.specs.View.{GoodPlace, PlaceAcceptance, SameThroughView, ViewOfLevel, PartOfImage}
+use Rattle.place.specs.View.{GoodPlace, PlaceAcceptance, NearestPlace, SameThroughView, ViewOfLevel, PartOfImage}
 
 module _ (r : Rules) (s : List ℕ) where
   only-place : (place : ℕ) (d : Directory) → checkAt r s place ≡ given d → GoodPlace r s place d
@@ -35,7 +36,11 @@ module _ (r : Rules) (s : List ℕ) where
       let z = sized-past s _ e in
       let g = past (leb place (length s)) _ _ _ (z .1) in
       let h = cookie-acceptance .only (r .kind) (r .limit) s place d (g .1) in
-      record { long = z .0; good = h .0; here = h .1; level = h .2 }
+      record { long = z .0; good = h .0; here = h .1 }
+
+  -- where a directory is given, the image has a length that is allowed
+  pub checked-long : (place : ℕ) (d : Directory) → checkAt r s place ≡ given d → GoodLength s
+  checked-long place d e = only-place place d e .long
 
   all-place : (place : ℕ) (d : Directory) → (r .kind .one ≡ r .kind .two → ⊥) → GoodPlace r s place d → checkAt r s place ≡ given d
   unfolding checkAt
@@ -45,23 +50,21 @@ module _ (r : Rules) (s : List ℕ) where
       let within : place ≤ length s = omega arith in
       sized-passed s _ (g .long)
       ∙ (passed _ _ _ _ (le-leb _ _ within)
-      ∙ (ap (directoryByCookie (r .kind) (r .limit) s) (sym h) ∙ cookie-acceptance .all (r .kind) (r .limit) s d apart (g .good) (g .level)))
+      ∙ (ap (directoryByCookie (r .kind) (r .limit) s) (sym h) ∙ cookie-acceptance .all (r .kind) (r .limit) s d apart (g .good)))
 
   -- a directory that a level leads to is good, at its own place
   good-opened : (level : ℕ) (d : Directory) → flashDirectory r level s ≡ given d → GoodPlace r s (d .place .0) d
   good-opened level d e = let w = opened r s d level e in by (w .0) (w .1)
     where
-      at : (l o : ℕ) → GoodLength s → directoryAt (r .kind) (r .limit) l s o ≡ given d → (l ≡ 1) ⊎ (l ≡ 2) → GoodPlace r s (d .place .0) d
-      at l o z e w =
-          let g = only-good (r .kind) l s (r .limit) o d e in
-          record { long = z; good = g .0; here = refl; level = subst (λ (n : ℕ). (n ≡ 1) ⊎ (n ≡ 2)) (sym (g .2)) w }
+      at : (l o : ℕ) → GoodLength s → directoryAt (r .kind) (r .limit) l s o ≡ given d → GoodPlace r s (d .place .0) d
+      at l o z e = record { long = z; good = only-good (r .kind) (r .limit) l s o d e .0; here = refl }
 
       by : {level : ℕ} → GoodLength s → Opened r s d level → GoodPlace r s (d .place .0) d
-      by z (one e) = let t = then-given (pointerIn r s) _ e in at 1 (t .0 .place .0) z (t .2) (inl refl)
+      by z (one e) = let t = then-given (pointerIn r s) _ e in at 1 (t .0 .place .0) z (t .2)
       by z (two above e h) =
           let t = then-given (leadIn (r .kind) s above) _ h in
           let u = then-given (leadsTo (r .window) s (above .place .0) (t .0)) _ (t .2) in
-          at 2 (u .0) z (u .2) (inr refl)
+          at 2 (u .0 .0) z (u .2)
 
 pub place-acceptance : PlaceAcceptance
 place-acceptance = record { only = only-place; all = all-place }
@@ -71,20 +74,20 @@ module _ (r : Rules) (apart : r .kind .one ≡ r .kind .two → ⊥) (level : �
   kept : (d : Directory) → flashDirectory r level s ≡ given d → checkAt r s (d .place .0) ≡ given d
   kept d e = all-place r s (d .place .0) d apart (good-opened r s level d e)
 
-  same : (d : Directory) → flashDirectory r level s ≡ given d → checkAt r (viewImage r level s) (viewPlace r level s) ≡ given d
+  same : (d : Directory) → flashDirectory r level s ≡ given d → checkAt r (viewImage r level s) (viewPlace r level s .0) ≡ given d
   same d e = rw e (kept d e)
 
   -- whatever is asked of it next
   same-next : {B : Type 0} (next : List ℕ → Directory → Reply B) (d : Directory) → flashDirectory r level s ≡ given d →
-      then (checkAt r (viewImage r level s) (viewPlace r level s)) (next (viewImage r level s)) ≡ then (flashDirectory r level s) (next s)
+      then (checkAt r (viewImage r level s) (viewPlace r level s .0)) (next (viewImage r level s)) ≡ then (flashDirectory r level s) (next s)
   same-next next d e = rw (e, kept d e)
 
-  none-15 : (number : ℕ) (carried : Carried) → flashDirectory r level s ≡ refused number carried → checkAt r (viewImage r level s) (viewPlace r level s) ≡ refused 15 alone
+  none-15 : (number : ℕ) (carried : Carried) → flashDirectory r level s ≡ refused number carried → checkAt r (viewImage r level s) (viewPlace r level s .0) ≡ refused 15 alone
   unfolding checkAt
   none-15 number carried e = rw e
 
   next-15 : {B : Type 0} (next : List ℕ → Directory → Reply B) (number : ℕ) (carried : Carried) → flashDirectory r level s ≡ refused number carried →
-      then (checkAt r (viewImage r level s) (viewPlace r level s)) (next (viewImage r level s)) ≡ refused 15 alone
+      then (checkAt r (viewImage r level s) (viewPlace r level s .0)) (next (viewImage r level s)) ≡ refused 15 alone
   next-15 next number carried e = ap (λ (x : Reply Directory). then x (next (viewImage r level s))) (none-15 number carried e)
 
   -- of an entry's bytes nothing is left where they are refused, by the one number or the other
@@ -106,7 +109,7 @@ through-view r apart = record {
   part = λ level s d i. same-next r apart level s (λ x d. partIn (r .kind) (r .window) x d i) d;
   bytes = λ level s i. same-bytes r apart level s i (flashDirectory r level s) refl;
   begin = λ level s i at. same-begin r apart level s i at (flashDirectory r level s) refl;
-  none = λ level s number carried e. (ap (heldBytes s) e, ap heldPlace e);
+  none = λ level s number carried e. (ap (heldBytes s) e, ap (λ (x : Reply Directory). heldPlace x .0) e);
   directory-15 = none-15 r apart;
   entry-15 = λ level s i. next-15 r apart level s (λ x d. entryIn (r .kind) x d i);
   part-15 = λ level s i. next-15 r apart level s (λ x d. partIn (r .kind) (r .window) x d i);
@@ -115,8 +118,32 @@ through-view r apart = record {
 pub view-of-level : ViewOfLevel
 view-of-level = record { every = through-view; document = through-view baseRules (λ e. omega arith) }
 
+-- what comes after the length
+abbrev checkedAt : Rules → (s : List ℕ) → (place : ℕ) → Reply Directory
+checkedAt r s place = within s place (directoryByCookie (r .kind) (r .limit) s place)
+
+-- the offset nearest to a place that no offset can tell lies beyond the image, as the place does
+nearest-check : (r : Rules) (s : List ℕ) (place : ℕ) → checkAt r s (nearestTo place .0) ≡ checkAt r s place
+unfolding checkAt
+nearest-check r s place = by (leb place 0xFFFF_FFFF) refl (lengthAllowed s) refl
+  where
+    by : (b : Bool) → leb place 0xFFFF_FFFF ≡ b → (l : Bool) → lengthAllowed s ≡ l → guard l 15 (checkedAt r s (cond b place 0xFFFF_FFFF)) ≡ guard l 15 (checkedAt r s place)
+    by true q l k = refl
+    by false q false k = refl
+    by false q true k =
+        let far : 0xFFFF_FFFF < place = leb-false _ _ q in
+        let long : length s ≤ longest = allowed-fact s k .to in
+        failed _ _ _ _ (lt-leb 0xFFFF_FFFF (length s) (omega arith)) ∙ sym (failed _ _ _ _ (lt-leb place (length s) (omega arith)))
+
+pub nearest-place : NearestPlace
+nearest-place = record {
+  check = nearest-check;
+  entry = λ r s place i. ap (λ (x : Reply Directory). then x (λ d. entryIn (r .kind) s d i)) (nearest-check r s place);
+  part = λ r s place i. ap (λ (x : Reply Directory). then x (λ d. partIn (r .kind) (r .window) s d i)) (nearest-check r s place);
+}
+
 module _ (r : Rules) (s : List ℕ) (place i : ℕ) where
-  inside : (p : Part) → partAt r s place i ≡ given p → p .place + p .length ≤ length s
+  inside : (p : Part) → partAt r s place i ≡ given p → p .place .0 + p .length ≤ length s
   inside p e = let t = then-given (checkAt r s place) _ e in part-inside (r .kind) (r .window) s (t .0) i p (t .2)
 
   size : (e : Entry) (p : Part) → entryAt r s place i ≡ given e → partAt r s place i ≡ given p → p .length ≡ e .size
@@ -128,7 +155,7 @@ module _ (r : Rules) (s : List ℕ) (place i : ℕ) where
       let g : partOf (r .kind) (r .window) s (d .place .0) e ≡ given p = ap (λ (x : Reply Entry). then x (partOf (r .kind) (r .window) s (d .place .0))) (sym (t .2)) ∙ h in
       let v = past (not (eqb (e .class) (r .kind .value))) _ _ _ g in
       let u = then-given (leadsTo (r .window) s (d .place .0) e) (partWithin s (e .size)) (v .1) in
-      let w = past (leb (u .0 + e .size) (length s)) _ _ _ (u .2) in
+      let w = past (leb (u .0 .0 + e .size) (length s)) _ _ _ (u .2) in
       cc (w .1)
 
 pub part-of-image : PartOfImage

@@ -3,6 +3,7 @@ use Prim.Native.Nat.{ℕ}
 use mathlib.Core.List.{List, []}
 use Rattle.reply.specs.Reply.{Reply, given, refused, then}
 use Rattle.window.specs.Window.{within}
+use Rattle.window.specs.declared.Offset.{Offset}
 use Rattle.directory.specs.Directory.{directoryByCookie}
 use Rattle.entries.specs.Entry.{entryIn}
 use Rattle.entries.specs.Part.{partIn}
@@ -10,7 +11,7 @@ use Rattle.directory.specs.declared.Directory.{Directory}
 use Rattle.entries.specs.declared.Entry.{Entry}
 use Rattle.entries.specs.declared.Part.{Part}
 use Rattle.flash.specs.Flash.{flashDirectory}
-use Rattle.efs.specs.Rules.{sized}
+use Rattle.window.specs.Length.{sized}
 use Rattle.efs.specs.declared.Rules.{Rules}
 
 -- the directory at a place, checked again without the EFS
@@ -34,20 +35,20 @@ heldBytes image (given d) = image
 heldBytes image (refused number carried) = []
 
 -- the place that is kept: where the directory begins, 0 where it is refused
-abbrev pub heldPlace : Reply Directory → ℕ
-heldPlace (given d) = d .place .0
-heldPlace (refused number carried) = 0
+abbrev pub heldPlace : Reply Directory → Offset
+heldPlace (given d) = d .place
+heldPlace (refused number carried) = record { 0 = 0 }
 
 -- a view of the directory of a level: the lent image that it holds, and the place that it keeps
 abbrev pub viewImage : Rules → (level : ℕ) → (image : List ℕ) → List ℕ
 viewImage r level image = heldBytes image (flashDirectory r level image)
 
-abbrev pub viewPlace : Rules → (level : ℕ) → (image : List ℕ) → ℕ
+abbrev pub viewPlace : Rules → (level : ℕ) → (image : List ℕ) → Offset
 viewPlace r level image = heldPlace (flashDirectory r level image)
 
 -- entry i, and where its bytes lie, through a view of the directory of a level
 abbrev pub entryThrough : Rules → (level : ℕ) → (image : List ℕ) → (i : ℕ) → Reply Entry
-entryThrough r level image i = entryAt r (viewImage r level image) (viewPlace r level image) i
+entryThrough r level image i = entryAt r (viewImage r level image) (viewPlace r level image .0) i
 
 abbrev pub partThrough : Rules → (level : ℕ) → (image : List ℕ) → (i : ℕ) → Reply Part
-partThrough r level image i = partAt r (viewImage r level image) (viewPlace r level image) i
+partThrough r level image i = partAt r (viewImage r level image) (viewPlace r level image .0) i

@@ -11,35 +11,37 @@ use entries::EntryAnswer;
 use entries::PartAnswer;
 use reply::Refusal;
 use window::Offset;
+use window::OffsetAnswer;
 
 // The directory at a place, its level by its cookie.
-pub fn check_at(image: &[u8], place: usize) -> DirectoryAnswer
-    ensures { λ r. ⌜ toldDirectory r ≡ checkAt baseRules (now (image .entry)) place ⌝ }
+pub fn check_at(image: &[u8], place: Offset) -> DirectoryAnswer
+    ensures { λ r. ⌜ toldDirectory r ≡ checkAt baseRules (now (image .entry)) (place .0) ⌝ }
 {
     check_by(image, efs::base_rules(), place)
 }
 
 // The same by these rules.
-fn check_by(image: &[u8], rules: Rules, place: usize) -> DirectoryAnswer
-    ensures { λ r. ⌜ toldDirectory r ≡ checkAt rules (now (image .entry)) place ⌝ }
+fn check_by(image: &[u8], rules: Rules, place: Offset) -> DirectoryAnswer
+    ensures { λ r. ⌜ toldDirectory r ≡ checkAt rules (now (image .entry)) (place .0) ⌝ }
 {
-    if efs::length_allowed(image) {
-        if window::within(image, place) {
-            return directory::directory_by_cookie(
+    if window::length_allowed(image) {
+        match place.within(image) {
+            OffsetAnswer::Given(at) => directory::directory_by_cookie(
                 image,
                 rules.kind,
                 rules.limit,
-                Offset(place as u32),
-            );
+                at,
+            ),
+            OffsetAnswer::Refused(why) => DirectoryAnswer::Refused(why),
         }
-        return DirectoryAnswer::Refused(Refusal::OUTSIDE);
+    } else {
+        DirectoryAnswer::Refused(Refusal::IMAGE)
     }
-    DirectoryAnswer::Refused(Refusal::IMAGE)
 }
 
 // Entry i of the directory at a place.
-pub fn entry_at(image: &[u8], place: usize, i: usize) -> EntryAnswer
-    ensures { λ r. ⌜ toldEntry r ≡ entryAt baseRules (now (image .entry)) place i ⌝ }
+pub fn entry_at(image: &[u8], place: Offset, i: usize) -> EntryAnswer
+    ensures { λ r. ⌜ toldEntry r ≡ entryAt baseRules (now (image .entry)) (place .0) i ⌝ }
 {
     let rules = efs::base_rules();
     match check_by(image, rules, place) {
@@ -49,8 +51,8 @@ pub fn entry_at(image: &[u8], place: usize, i: usize) -> EntryAnswer
 }
 
 // Where the bytes of entry i of the directory at a place lie, or why there are none.
-pub fn part_at(image: &[u8], place: usize, i: usize) -> PartAnswer
-    ensures { λ r. ⌜ toldPart r ≡ partAt baseRules (now (image .entry)) place i ⌝ }
+pub fn part_at(image: &[u8], place: Offset, i: usize) -> PartAnswer
+    ensures { λ r. ⌜ toldPart r ≡ partAt baseRules (now (image .entry)) (place .0) i ⌝ }
 {
     let rules = efs::base_rules();
     match check_by(image, rules, place) {
@@ -60,8 +62,8 @@ pub fn part_at(image: &[u8], place: usize, i: usize) -> PartAnswer
 }
 
 // The bytes of entry i of the directory at a place: that part of the caller's image. Where refused there are none, and `part_at` gives the number.
-pub fn bytes_at<'a>(image: &'a [u8], place: usize, i: usize) -> &'a [u8]
-    ensures { λ r. ⌜ (now r ≡ bytesOf (now (image .entry)) (partAt baseRules (now (image .entry)) place i)) × (r .ptr ≡ beginOf (image .entry .ptr) (partAt baseRules (now (image .entry)) place i)) ⌝ }
+pub fn bytes_at<'a>(image: &'a [u8], place: Offset, i: usize) -> &'a [u8]
+    ensures { λ r. ⌜ (now r ≡ bytesOf (now (image .entry)) (partAt baseRules (now (image .entry)) (place .0) i)) × (r .ptr ≡ beginOf (image .entry .ptr) (partAt baseRules (now (image .entry)) (place .0) i)) ⌝ }
 {
     let rules = efs::base_rules();
     match check_by(image, rules, place) {
@@ -81,11 +83,11 @@ pub fn held<'a>(image: &'a [u8], level: u32) -> &'a [u8]
 }
 
 // The place that it keeps: where the directory begins, or 0 where refused.
-pub fn held_place(image: &[u8], level: u32) -> usize
+pub fn held_place(image: &[u8], level: u32) -> Offset
     ensures { λ r. ⌜ r ≡ viewPlace baseRules level (now (image .entry)) ⌝ }
 {
     match flash::directory(image, level) {
-        DirectoryAnswer::Given(d) => d.place.0 as usize,
-        DirectoryAnswer::Refused(_) => 0,
+        DirectoryAnswer::Given(d) => d.place(),
+        DirectoryAnswer::Refused(_) => Offset(0),
     }
 }

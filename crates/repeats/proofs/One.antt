@@ -8,6 +8,7 @@ use borrow.Author.Tests.{leb-true, eqb-true, eqb-false}
 use lib.Dec.{leb, eqb}
 use Rattle.reply.specs.Reply.{Reply, Carried, given, refused, then}
 use Rattle.reply.proofs.ReplyLaws.{past, then-given}
+use Rattle.window.specs.declared.Offset.{Offset}
 use Rattle.directory.specs.Directory.{directoryAt}
 use Rattle.directory.specs.Repeat.{repeatedAt}
 use Rattle.directory.specs.declared.Directory.{Directory}
@@ -20,12 +21,13 @@ use Rattle.entries.specs.declared.Entry.{Entry}
 use Rattle.entries.specs.declared.Match.{Match}
 use Rattle.entries.proofs.Once.{no-repeats}
 use Rattle.efs.specs.Efs.{pointerIn}
-use Rattle.efs.specs.Rules.{baseRules, sized}
+use Rattle.window.specs.Length.{sized}
+use Rattle.efs.specs.Rules.{baseRules}
 use Rattle.efs.specs.Efs.{flashPointer}
 use Rattle.flash.specs.Flash.{levelOne, levelTwo, levelTwoAt, flashDirectory, fromLookup, flashFind}
-use Rattle.efs.specs.Good.{GoodLength}
+use Rattle.window.specs.Inside.{GoodLength}
 use Rattle.efs.specs.declared.Pointer.{Pointer}
-use Rattle.efs.proofs.Length.{sized-passed, sized-past}
+use Rattle.window.proofs.Length.{sized-passed, sized-past}
 use Rattle.flash.proofs.Ways.{Opened, one, two, opened}
 use Rattle.repeats.specs.Repeats.{repeatsOne, repeatsLed, repeatsBelow, repeatsTwo, flashRepeats}
 use Rattle.repeats.specs.One.{OneOfEach}
@@ -40,8 +42,8 @@ given-at level s d e = by level (opened baseRules s d level e .1)
         (1, p .0 .place .0, p .2)
     by l (two above a q) =
         let k = then-given (leadIn (baseRules .kind) s above) (levelTwoAt baseRules s (above .place .0)) q in
-        let p = then-given (leadsTo (baseRules .window) s (above .place .0) (k .0)) (directoryAt (baseRules .kind) 512 2 s) (k .2) in
-        (2, p .0, p .2)
+        let p = then-given (leadsTo (baseRules .window) s (above .place .0) (k .0)) (λ (place : Offset). directoryAt (baseRules .kind) 512 2 s (place .0)) (k .2) in
+        (2, p .0 .0, p .2)
 
 module _ (level : ℕ) (s : List ℕ) (d : Directory) (e : flashDirectory baseRules level s ≡ given d) where
   only-one : (class sub i j : ℕ) → i < d .total → j < d .total → Matches (baseRules .kind) s d class sub i → Matches (baseRules .kind) s d class sub j → i ≡ j
@@ -67,15 +69,15 @@ module _ (s : List ℕ) (r : Repeat) where
   named-two e =
       let t = then-given (flashDirectory baseRules 1 s) (repeatsBelow baseRules s) e in
       let k = then-given (leadIn (baseRules .kind) s (t .0)) (repeatsLed baseRules s (t .0)) (t .2) in
-      let p = then-given (leadsTo (baseRules .window) s (t .0 .place .0) (k .0)) (repeatedAt (baseRules .kind) 512 2 s) (k .2) in
-      let n = names-both .only (baseRules .kind) 512 2 s (p .0) r (p .2) in
+      let p = then-given (leadsTo (baseRules .window) s (t .0 .place .0) (k .0)) (λ (place : Offset). repeatedAt (baseRules .kind) 512 2 s (place .0)) (k .2) in
+      let n = names-both .only (baseRules .kind) 512 2 s (p .0 .0) r (p .2) in
       let z = opened baseRules s (t .0) 1 (t .1) .0 in
       let first = sym (sized-passed s (levelOne baseRules s) z) ∙ t .1 in (
         n .0,
         sized-passed s (then (levelOne baseRules s) (levelTwo baseRules s)) z
             ∙ ap (λ (x : Reply Directory). then x (levelTwo baseRules s)) first
             ∙ ap (λ (x : Reply Entry). then x (levelTwoAt baseRules s (t .0 .place .0))) (k .1)
-            ∙ ap (λ (x : Reply ℕ). then x (directoryAt (baseRules .kind) 512 2 s)) (p .1)
+            ∙ ap (λ (x : Reply Offset). then x (λ place. directoryAt (baseRules .kind) 512 2 s (place .0))) (p .1)
             ∙ n .1,
       )
 

@@ -20,7 +20,7 @@ repeatsOne r image = then (flashPointer r image) (λ p. repeatedAt (r .kind) (r 
 
 -- in the level two that entry e of a directory leads to
 abbrev pub repeatsLed : Rules → (image : List ℕ) → Directory → Entry → Reply Repeat
-repeatsLed r image d e = then (leadsTo (r .window) image (d .place .0) e) (repeatedAt (r .kind) (r .limit) 2 image)
+repeatsLed r image d e = then (leadsTo (r .window) image (d .place .0) e) (λ place. repeatedAt (r .kind) (r .limit) 2 image (place .0))
 
 -- in the level two below a directory of level one: where its lowest entry of type 0x40 leads
 abbrev pub repeatsBelow : Rules → (image : List ℕ) → Directory → Reply Repeat

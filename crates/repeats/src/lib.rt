@@ -1,10 +1,10 @@
 // Which entries repeat in the directory of a level of a flash image, for a message that names both.
 ghost use mathlib.Core.Path.{_≡_};
-ghost use Prim.Native.Nat.{_≤_};
-ghost use lib.ListN.{length};
+ghost use mathlib.Core.Bool.{true};
 ghost use Rattle.reply.specs.Reply.{then};
 ghost use Rattle.directory.specs.Repeat.{toldRepeat};
-ghost use Rattle.efs.specs.Rules.{baseRules, longest};
+ghost use Rattle.window.specs.Length.{lengthAllowed, sized};
+ghost use Rattle.efs.specs.Rules.{baseRules};
 ghost use Rattle.repeats.specs.Repeats.{repeatsOne, repeatsLed, repeatsBelow, repeatsTwo, flashRepeats};
 use directory::Directory;
 use directory::DirectoryAnswer;
@@ -13,9 +13,8 @@ use efs::PointerAnswer;
 use efs::Rules;
 use entries::Entry;
 use entries::EntryAnswer;
-use entries::PlaceAnswer;
 use reply::Refusal;
-use window::Offset;
+use window::OffsetAnswer;
 use window::Physical;
 
 // Those of level one.
@@ -34,26 +33,25 @@ fn repeats_one(image: &[u8]) -> RepeatAnswer
     }
 }
 
-// Those of the level two that an entry of a directory leads to, in an image of a length that is allowed.
+// Those of the level two that an entry of a directory leads to.
 fn repeats_led(image: &[u8], d: Directory, e: Entry) -> RepeatAnswer
-    requires { ⌜ length (now image) ≤ longest ⌝ }
-    ensures { λ r. ⌜ toldRepeat r ≡ repeatsLed baseRules (now (image .entry)) d e ⌝ }
+    ensures { λ r. ⌜ toldRepeat r ≡ sized (now (image .entry)) (repeatsLed baseRules (now (image .entry)) d e) ⌝ }
 {
-    match entries::leads_to(image, Physical::WINDOW, d.place, e) {
-        PlaceAnswer::Given(place) => directory::repeated_at(
+    match entries::leads_to(image, Physical::WINDOW, d.place(), e) {
+        OffsetAnswer::Given(place) => directory::repeated_at(
             image,
             directory::psp_kind(),
             Rules::LIMIT,
             2,
-            Offset(place as u32),
+            place,
         ),
-        PlaceAnswer::Refused(why) => RepeatAnswer::Refused(why),
+        OffsetAnswer::Refused(why) => RepeatAnswer::Refused(why),
     }
 }
 
-// Those of level two, below a directory of level one.
+// Those of level two, below a directory of level one, in an image of a length that is allowed.
 fn repeats_below(image: &[u8], d: Directory) -> RepeatAnswer
-    requires { ⌜ length (now image) ≤ longest ⌝ }
+    requires { ⌜ lengthAllowed (now image) ≡ true ⌝ }
     ensures { λ r. ⌜ toldRepeat r ≡ repeatsBelow baseRules (now (image .entry)) d ⌝ }
 {
     match entries::lead_in(image, directory::psp_kind(), d) {

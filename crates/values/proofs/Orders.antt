@@ -5,7 +5,7 @@ use Rattle.fletcher.specs.Fletcher.{wordsAt, sumOf as wordSum, weightedOf, flet
 use Rattle.window.specs.Window.{offsetIn}
 use Rattle.reply.specs.Scan.{scan}
 use Rattle.reply.specs.Some.{someBelow}
-use Rattle.directory.specs.Directory.{directoryAt, directoryByCookie}
+use Rattle.directory.specs.Directory.{directoryChecks, directoryByCookie}
 use Rattle.entries.specs.Part.{leadsTo, partWithin, partOf}
 use Rattle.efs.specs.Efs.{candidateAt, pointerTo, pointerOf}
 use Rattle.flash.specs.Flash.{flashDirectory}
@@ -25,7 +25,7 @@ use Rattle.mailbox_calls.specs.Calls.{postOf, loadOf, turnOf, unloadOf, takeOf}
 use Rattle.values.specs.Orders.{Orders}
 
 pub orders : Orders
-unfolding leAt leBytes putBytes wordsAt wordSum weightedOf fletcherOf offsetIn scan someBelow directoryAt directoryByCookie leadsTo partWithin partOf candidateAt pointerTo pointerOf flashDirectory entriesFrom belowOf firstIn checkAt entryBytes startOf roomFor bytesOf sumOf fresh idFits registersFit structureChecks structuresChecks reservedZero ownOf structureBytes bytesWith tableBytes headerChecks tableOf readOf admitOf writeOf footer headerOf lengthBefore entriesIn guidStartOf allZero guidRoomFor wordOf deliveryOf ruleOf postsFit registerFits timesIn registerHolds allBelow consistentOf postOf takeOf
+unfolding leAt leBytes putBytes wordsAt wordSum weightedOf fletcherOf offsetIn scan someBelow directoryChecks directoryByCookie leadsTo partWithin partOf candidateAt pointerTo pointerOf flashDirectory entriesFrom belowOf firstIn checkAt entryBytes startOf roomFor bytesOf sumOf fresh idFits registersFit structureChecks structuresChecks reservedZero ownOf structureBytes bytesWith tableBytes headerChecks tableOf readOf admitOf writeOf footer headerOf lengthBefore entriesIn guidStartOf allZero guidRoomFor wordOf settledOf deliveryOf ruleOf postsFit registerFits timesIn registerHolds allBelow consistentOf postOf loadOf turnOf unloadOf takeOf
 orders = record {
   directory = refl;
   limit = refl;

@@ -1,3 +1,6 @@
-pub mod Results
+pub mod Answers
+pub mod Made
+pub mod Shared
 pub mod Taken
 pub mod Through
+pub mod Values

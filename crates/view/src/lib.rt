@@ -4,21 +4,21 @@ ghost use mathlib.Core.Path.{_≡_};
 ghost use Rattle.directory.specs.Directory.{toldDirectory};
 ghost use Rattle.entries.specs.Entry.{toldEntry};
 ghost use Rattle.entries.specs.Part.{toldPart, bytesOf, beginOf};
-ghost use Rattle.efs.specs.Rules.{baseRules};
-ghost use Rattle.place.specs.Place.{checkAt, entryAt, partAt, viewImage, viewPlace, entryThrough, partThrough};
+ghost use Rattle.view.specs.View.{viewHolds, viewKeeps, viewCheck, viewEntry, viewPart};
 use directory::DirectoryAnswer;
 use entries::EntryAnswer;
 use entries::PartAnswer;
+use window::Offset;
 
 // The lent image, and where in it the directory begins. A caller may make one of any image and any place.
 pub struct View<'a> {
     pub image: &'a [u8],
-    pub place: usize,
+    pub place: Offset,
 }
 
 // A view of the directory of a level. Where refused it holds no bytes and place 0, and `flash::directory` gives the number.
 pub fn view_of<'a>(image: &'a [u8], level: u32) -> View<'a>
-    ensures { λ v. ⌜ (now (v .image) ≡ viewImage baseRules level (now (image .entry))) × (v .image .ptr ≡ image .entry .ptr) × (v .place ≡ viewPlace baseRules level (now (image .entry))) ⌝ }
+    ensures { λ v. ⌜ (now (v .image) ≡ viewHolds level (now (image .entry))) × (v .image .ptr ≡ image .entry .ptr) × (v .place ≡ viewKeeps level (now (image .entry))) ⌝ }
 {
     View {
         image: place::held(image, level),
@@ -27,7 +27,7 @@ pub fn view_of<'a>(image: &'a [u8], level: u32) -> View<'a>
 }
 
 // The view that holds this image and keeps this place, whatever stands there.
-pub fn view_at<'a>(image: &'a [u8], place: usize) -> View<'a>
+pub fn view_at<'a>(image: &'a [u8], place: Offset) -> View<'a>
     ensures { λ v. ⌜ (v .image ≡ image .entry) × (v .place ≡ place) ⌝ }
 {
     View { image, place }
@@ -35,56 +35,56 @@ pub fn view_at<'a>(image: &'a [u8], place: usize) -> View<'a>
 
 // The view's directory, its level by its cookie: the number beside, of a view.
 pub fn view_check<'a>(v: View<'a>) -> DirectoryAnswer
-    ensures { λ r. ⌜ toldDirectory r ≡ checkAt baseRules (now (v .entry .image)) (v .entry .place) ⌝ }
+    ensures { λ r. ⌜ toldDirectory r ≡ viewCheck (now (v .entry .image)) (v .entry .place) ⌝ }
 {
     place::check_at(v.image, v.place)
 }
 
 // Entry i of the view's directory.
 pub fn view_entry<'a>(v: View<'a>, i: usize) -> EntryAnswer
-    ensures { λ r. ⌜ toldEntry r ≡ entryAt baseRules (now (v .entry .image)) (v .entry .place) i ⌝ }
+    ensures { λ r. ⌜ toldEntry r ≡ viewEntry (now (v .entry .image)) (v .entry .place) i ⌝ }
 {
     place::entry_at(v.image, v.place, i)
 }
 
 // Where the bytes of entry i lie in the view's image, or why there are none.
 pub fn view_part<'a>(v: View<'a>, i: usize) -> PartAnswer
-    ensures { λ r. ⌜ toldPart r ≡ partAt baseRules (now (v .entry .image)) (v .entry .place) i ⌝ }
+    ensures { λ r. ⌜ toldPart r ≡ viewPart (now (v .entry .image)) (v .entry .place) i ⌝ }
 {
     place::part_at(v.image, v.place, i)
 }
 
 // The bytes of entry i: that part of the caller's image. Where refused there are none, and `view_part` gives the number.
 pub fn view_bytes<'a>(v: View<'a>, i: usize) -> &'a [u8]
-    ensures { λ r. ⌜ (now r ≡ bytesOf (now (v .entry .image)) (partAt baseRules (now (v .entry .image)) (v .entry .place) i)) × (r .ptr ≡ beginOf (v .entry .image .ptr) (partAt baseRules (now (v .entry .image)) (v .entry .place) i)) ⌝ }
+    ensures { λ r. ⌜ (now r ≡ bytesOf (now (v .entry .image)) (viewPart (now (v .entry .image)) (v .entry .place) i)) × (r .ptr ≡ beginOf (v .entry .image .ptr) (viewPart (now (v .entry .image)) (v .entry .place) i)) ⌝ }
 {
     place::bytes_at(v.image, v.place, i)
 }
 
-// For callers with plain parameters: entry i through a view of the directory of a level.
-pub fn entry_through(image: &[u8], level: u32, i: usize) -> EntryAnswer
-    ensures { λ r. ⌜ toldEntry r ≡ entryThrough baseRules level (now (image .entry)) i ⌝ }
+// For callers with plain parameters: the place of the directory of a level, or 0 where refused.
+pub fn place_through(image: &[u8], level: u32) -> Offset
+    ensures { λ r. ⌜ r ≡ viewKeeps level (now (image .entry)) ⌝ }
 {
-    view_entry(view_of(image, level), i)
-}
-
-// The bytes of entry i through such a view: that part of the caller's image.
-pub fn bytes_through<'a>(image: &'a [u8], level: u32, i: usize) -> &'a [u8]
-    ensures { λ r. ⌜ (now r ≡ bytesOf (viewImage baseRules level (now (image .entry))) (partThrough baseRules level (now (image .entry)) i)) × (r .ptr ≡ beginOf (image .entry .ptr) (partThrough baseRules level (now (image .entry)) i)) ⌝ }
-{
-    view_bytes(view_of(image, level), i)
+    view_of(image, level).place
 }
 
 // Entry i from the view that holds the image and keeps the place.
-pub fn entry_from(image: &[u8], place: usize, i: usize) -> EntryAnswer
-    ensures { λ r. ⌜ toldEntry r ≡ entryAt baseRules (now (image .entry)) place i ⌝ }
+pub fn entry_from(image: &[u8], place: Offset, i: usize) -> EntryAnswer
+    ensures { λ r. ⌜ toldEntry r ≡ viewEntry (now (image .entry)) place i ⌝ }
 {
     view_entry(view_at(image, place), i)
 }
 
 // Where the bytes of entry i lie, from that view, or why there are none.
-pub fn part_from(image: &[u8], place: usize, i: usize) -> PartAnswer
-    ensures { λ r. ⌜ toldPart r ≡ partAt baseRules (now (image .entry)) place i ⌝ }
+pub fn part_from(image: &[u8], place: Offset, i: usize) -> PartAnswer
+    ensures { λ r. ⌜ toldPart r ≡ viewPart (now (image .entry)) place i ⌝ }
 {
     view_part(view_at(image, place), i)
+}
+
+// The bytes of entry i, from that view: that part of the caller's image. Where refused there are none, and `part_from` gives the number.
+pub fn bytes_from<'a>(image: &'a [u8], place: Offset, i: usize) -> &'a [u8]
+    ensures { λ r. ⌜ (now r ≡ bytesOf (now (image .entry)) (viewPart (now (image .entry)) place i)) × (r .ptr ≡ beginOf (image .entry .ptr) (viewPart (now (image .entry)) place i)) ⌝ }
+{
+    view_bytes(view_at(image, place), i)
 }

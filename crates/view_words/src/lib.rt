@@ -8,15 +8,17 @@ ghost use Rattle.flash_words.specs.Images.{layEntry, layPart, layPlace};
 use directory::DirectoryAnswer;
 use entries::EntryAnswer;
 use entries::PartAnswer;
+use window::Offset;
 
-// One word: the place that a view of the directory of a level keeps.
+// One word: the place that a view of the directory of a level keeps. The view tells the place, and the call on the level, beside it, the number.
 pub fn view(image: &[u8], level: u32, words: &mut [u64]) -> u64
     ensures { λ r. ⌜ r ≡ numberLeft layPlace (flashDirectory baseRules level (now (image .entry))) (now (words .entry)) ⌝ }
     ensures { λ _. ⌜ now (words .exit) ≡ wordsLeft layPlace (flashDirectory baseRules level (now (image .entry))) (now (words .entry)) ⌝ }
 {
+    let place = view::place_through(image, level);
     match flash::directory(image, level) {
-        DirectoryAnswer::Given(d) => {
-            let values = [d.place.0 as u64];
+        DirectoryAnswer::Given(_) => {
+            let values = [place.0 as u64];
             lent::put(words, 0, &values)
         }
         DirectoryAnswer::Refused(why) => why.number as u64,
@@ -28,7 +30,7 @@ pub fn entry(image: &[u8], place: usize, i: usize, words: &mut [u64]) -> u64
     ensures { λ r. ⌜ r ≡ numberLeft layEntry (entryAt baseRules (now (image .entry)) place i) (now (words .entry)) ⌝ }
     ensures { λ _. ⌜ now (words .exit) ≡ wordsLeft layEntry (entryAt baseRules (now (image .entry)) place i) (now (words .entry)) ⌝ }
 {
-    match view::entry_from(image, place, i) {
+    match view::entry_from(image, Offset::nearest(place), i) {
         EntryAnswer::Given(e) => {
             let values = [
                 e.class as u64,
@@ -48,9 +50,10 @@ pub fn part(image: &[u8], place: usize, i: usize, words: &mut [u64]) -> u64
     ensures { λ r. ⌜ r ≡ numberLeft layPart (partAt baseRules (now (image .entry)) place i) (now (words .entry)) ⌝ }
     ensures { λ _. ⌜ now (words .exit) ≡ wordsLeft layPart (partAt baseRules (now (image .entry)) place i) (now (words .entry)) ⌝ }
 {
-    match view::part_from(image, place, i) {
+    match view::part_from(image, Offset::nearest(place), i) {
         PartAnswer::Given(p) => {
-            let values = [p.place as u64, p.length as u64];
+            let begin = p.place;
+            let values = [begin.0 as u64, p.length as u64];
             lent::put(words, 0, &values)
         }
         PartAnswer::Refused(why) => why.number as u64,

@@ -12,7 +12,7 @@ use Rattle.reply.specs.Scan.{scan}
 use Rattle.reply.proofs.ReplyLaws.{clash}
 use Rattle.window.specs.Window.{windowStart, offsetIn}
 use Rattle.window.specs.declared.Offset.{Offset}
-use Rattle.directory.specs.Directory.{cookieOf, totalAt, entryPlace, checksumAt, classAt, reservedZero, mayStand, mayRepeat, entryStep, directoryOf, entriesAt, directoryAt}
+use Rattle.directory.specs.Directory.{cookieOf, totalAt, entryPlace, checksumAt, classAt, reservedZero, mayStand, mayRepeat, entryStep, directoryOf, entriesAt, directoryChecks, directoryAt}
 use Rattle.entries.specs.Part.{placeIn, leadsTo}
 use Rattle.directory.specs.declared.Kind.{Kind}
 use Rattle.directory.specs.declared.Directory.{Directory}
@@ -45,9 +45,9 @@ scan-alone step last f g zero i = g i
 scan-alone step last f g (suc m) i = f i _ (scan-alone step last f g m (i + 1))
 
 module _ (kind : Kind) (limit level : ℕ) (s : List ℕ) (o : ℕ) where
-  directory-alone : Alone (directoryAt kind limit level s o)
-  unfolding directoryAt
-  directory-alone =
+  checks-alone : Alone (directoryChecks kind limit level s o)
+  unfolding directoryChecks
+  checks-alone =
       let n = totalAt s o in
       guard-alone (leb (o + 16) (length s)) _ _
       (guard-alone (eqb (leAt 4 s (o + 0)) (cookieOf kind level)) _ _
@@ -59,9 +59,12 @@ module _ (kind : Kind) (limit level : ℕ) (s : List ℕ) (o : ℕ) where
       (λ i rest h. guard-alone (reservedZero kind s o i) _ _ (guard-alone (mayStand kind level (classAt kind s o i)) _ _ (guard-alone (mayRepeat kind s o i) _ _ h)))
       (λ i. given-alone _) n 0))))))
 
+  directory-alone : Alone (directoryAt kind limit level s o)
+  directory-alone = guard-alone (leb 1 level) _ _ (guard-alone (leb level 2) _ _ checks-alone)
+
 module _ (window : ℕ) (s : List ℕ) (o : ℕ) (e : Entry) where
   within-alone : (x : ℕ) → Alone (placeIn s x)
-  within-alone x = guard-alone (leb x (length s)) _ _ (given-alone x)
+  within-alone x = guard-alone (leb x (length s)) _ _ (given-alone _)
 
   lead-alone : Alone (leadsTo window s o e)
   unfolding leadsTo offsetIn
@@ -74,4 +77,4 @@ module _ (window : ℕ) (s : List ℕ) (o : ℕ) (e : Entry) where
       (cond-alone (eqb (e .mode) 1) _ _ (within-alone (e .location)) (within-alone (o + e .location))))
 
 pub level-alone : (rules : Rules) (s : List ℕ) (o : ℕ) (e : Entry) → Alone (levelTwoAt rules s o e)
-level-alone rules s o e = then-alone (leadsTo (rules .window) s o e) (directoryAt (rules .kind) (rules .limit) 2 s) (lead-alone (rules .window) s o e) (directory-alone (rules .kind) (rules .limit) 2 s)
+level-alone rules s o e = then-alone (leadsTo (rules .window) s o e) (λ (a : Offset). directoryAt (rules .kind) (rules .limit) 2 s (a .0)) (lead-alone (rules .window) s o e) (λ a. directory-alone (rules .kind) (rules .limit) 2 s (a .0))

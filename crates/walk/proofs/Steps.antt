@@ -10,8 +10,9 @@ use lib.Dec.{eqb, eqb·suc-zero}
 use Rattle.reply.specs.Reply.{Reply, Carried, given, refused, alone, tested}
 use Rattle.reply.specs.declared.Refusal.{Refusal}
 use Rattle.reply.proofs.ReplyLaws.{clash, then-given}
-use Rattle.directory.specs.Directory.{directoryAt}
-use Rattle.entries.specs.Entry.{entryOf, entryIn, matches}
+use Rattle.window.specs.declared.Offset.{Offset}
+use Rattle.directory.specs.Directory.{entryPlace, directoryAt}
+use Rattle.entries.specs.Entry.{fieldsAt, entryOf, entryIn, matches}
 use Rattle.entries.specs.Part.{leadsTo}
 use Rattle.directory.specs.declared.Kind.{Kind}
 use Rattle.directory.specs.declared.Directory.{Directory}
@@ -131,8 +132,8 @@ probed-is depth rules s d class sub e = by (matches e class sub) refl depth
   where
     few : (n : Directory) → levelTwoAt rules s (d .place .0) e ≡ given n → n .total ≤ (rules .limit)
     few n q =
-        let t = then-given (leadsTo (rules .window) s (d .place .0) e) (directoryAt (rules .kind) (rules .limit) 2 s) q in
-        acceptance .only (rules .kind) (rules .limit) 2 s (t .0) n (t .2) .0 .few
+        let t = then-given (leadsTo (rules .window) s (d .place .0) e) (λ (a : Offset). directoryAt (rules .kind) (rules .limit) 2 s (a .0)) q in
+        acceptance .only (rules .kind) (rules .limit) 2 s (t .0 .0) n (t .2) .0 .few
 
     down : (l : ℕ) (b : Bool) (r : Reply Directory) → eqb (e .class) (rules .kind .lead) ≡ b → levelTwoAt rules s (d .place .0) e ≡ r → matches e class sub ≡ false →
         Probed (suc l) rules s d class sub e (cond b (entered r) probe.Pass)
@@ -248,12 +249,23 @@ pass-cases false true true r = refl
 pass-cases false true false (given n) = refl
 pass-cases false true false (refused number carried) = refl
 
-pub pass-is : (depth : ℕ) (rules : Rules) (s : List ℕ) (d : Directory) (class sub i : ℕ) → i < d .total →
+pass-is : (depth : ℕ) (rules : Rules) (s : List ℕ) (d : Directory) (class sub i : ℕ) → i < d .total →
     isPass (probeOf depth (seek rules class sub) s d i) ≡ cond (matches (entryOf (rules .kind) s d i) class sub) false (cond (eqb (entryOf (rules .kind) s d i .class) (rules .kind .lead)) (eqb depth 0) true)
 unfolding probed
 pass-is depth rules s d class sub i h =
     ap (λ (r : Reply Entry). isPass (probedBy (probed depth (seek rules class sub) s d) r)) (all-entry (rules .kind) s d i h)
     ∙ pass-cases (matches (entryOf (rules .kind) s d i) class sub) (eqb (entryOf (rules .kind) s d i .class) (rules .kind .lead)) (eqb depth 0) (levelTwoAt rules s (d .place .0) (entryOf (rules .kind) s d i))
+
+-- the same of the first of the last entries, by the place and the total that the directory told
+pub pass-left : (depth : ℕ) (rules : Rules) (s : List ℕ) (d : Directory) (class sub left : ℕ) (at : Offset) (n : ℕ) → at ≡ d .place → n ≡ d .total → 0 < left → left ≤ d .total →
+    let e = fieldsAt s (entryPlace (rules .kind) (at .0) (n - left)) in
+    isPass (probeOf depth (seek rules class sub) s d (d .total - left)) ≡ cond (matches e class sub) false (cond (eqb (e .class) (rules .kind .lead)) (eqb depth 0) true)
+pass-left depth rules s d class sub left at n place total some few =
+    pass-is depth rules s d class sub (d .total - left) (omega arith)
+    ∙ sym (ap (λ (o : Offset). by (fieldsAt s (entryPlace (rules .kind) (o .0) (n - left)))) place ∙ ap (λ (m : ℕ). by (fieldsAt s (entryPlace (rules .kind) (d .place .0) (m - left)))) total)
+  where
+    by : Entry → Bool
+    by e = cond (matches e class sub) false (cond (eqb (e .class) (rules .kind .lead)) (eqb depth 0) true)
 
 not-true : false ≡ true → ⊥
 not-true e = let z : _≡_ {A = ℕ} 0 1 = ap (λ (b : Bool). cond b 1 0) e in omega (arith, z)

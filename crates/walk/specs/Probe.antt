@@ -9,7 +9,7 @@ use Rattle.entries.specs.Entry.{entryIn, matches}
 use Rattle.directory.specs.declared.Directory.{Directory}
 use Rattle.entries.specs.declared.Entry.{Entry}
 use Rattle.flash.specs.Flash.{levelTwoAt}
-use Rattle.efs.specs.Rules.{longest}
+use Rattle.window.specs.Length.{longest}
 use Rattle.walk.specs.declared.Search.{Search}
 use Rattle.walk.specs.declared.Probe.{Probe}
 use Rattle.walk.specs.declared.Probe.the-variants as probe

@@ -3,10 +3,12 @@ ghost use mathlib.Core.Path.{_≡_};
 ghost use Prim.Native.Nat.{_+_, _-_, _<_, _≤_};
 ghost use lib.ListN.{length};
 ghost use Rattle.reply.specs.Reply.{refused, alone};
-ghost use Rattle.efs.specs.Rules.{baseRules, longest};
+ghost use Rattle.window.specs.Length.{longest};
+ghost use Rattle.efs.specs.Rules.{baseRules};
 ghost use Rattle.flash.specs.Flash.{levelTwoAt, fromLookup};
 ghost use Rattle.walk.specs.Walk.{walkFrom, walkOf, firstIn, findImage, toldImageMatch};
 ghost use Rattle.walk.specs.Probe.{entered, probed, probeOf, isPass, Small};
+ghost use Rattle.walk.specs.First.{matchIn};
 use directory::Directory;
 use directory::DirectoryAnswer;
 use efs::Rules;
@@ -50,7 +52,7 @@ fn enter(image: &[u8], by: Search, d: Directory, e: Entry) -> Probe
     requires { ⌜ (1 ≤ length (now image)) × (length (now image) ≤ longest) ⌝ }
     ensures { λ r. ⌜ r ≡ entered (levelTwoAt (by .rules) (now (image .entry)) (d .place .0) e) ⌝ }
 {
-    match flash::level_two_at(image, by.rules, d.place, e) {
+    match flash::level_two_at(image, by.rules, d.place(), e) {
         DirectoryAnswer::Given(n) => Probe::Enter(n),
         DirectoryAnswer::Refused(why) => Probe::Refused(why),
     }
@@ -74,27 +76,31 @@ fn tested_entry(image: &[u8], by: Search, d: Directory, depth: u32, e: Entry) ->
     enter(image, by, d, e)
 }
 
-// Entry i of a directory, tested.
-fn probe_entry(image: &[u8], by: Search, d: Directory, depth: u32, i: u32) -> Probe
+// The first of the last entries of a directory, tested.
+fn probe_entry(image: &[u8], by: Search, d: Directory, depth: u32, left: u32) -> Probe
     requires { ⌜ (1 ≤ length (now image)) × (length (now image) ≤ longest) ⌝ }
-    ensures { λ r. ⌜ r ≡ probeOf depth by (now (image .entry)) d i ⌝ }
+    requires { ⌜ left ≤ d .total ⌝ }
+    ensures { λ r. ⌜ r ≡ probeOf depth by (now (image .entry)) d (d .total - left) ⌝ }
 {
+    let i = d.total() - left;
     match entries::entry_in(image, by.rules.kind, d, i as usize) {
         EntryAnswer::Given(e) => tested_entry(image, by, d, depth, e),
         EntryAnswer::Refused(why) => Probe::Refused(why),
     }
 }
 
-// Is entry i of a directory passed by? Two bytes tell.
-fn passes(image: &[u8], by: Search, d: Directory, depth: u32, i: u32) -> bool
-    requires { ⌜ i < d .total ⌝ }
-    ensures { λ r. ⌜ r ≡ isPass (probeOf depth by (now (image .entry)) d i) ⌝ }
+// Is the first of the last entries of a directory passed by? Two bytes tell.
+fn passes(image: &[u8], by: Search, d: Directory, depth: u32, left: u32) -> bool
+    requires { ⌜ (0 < left) × (left ≤ d .total) ⌝ }
+    ensures { λ r. ⌜ r ≡ isPass (probeOf depth by (now (image .entry)) d (d .total - left)) ⌝ }
 {
     let kind = by.rules.kind;
-    if entries::entry_matches(image, kind, d.place, i, by.class, by.sub) {
+    let at = d.place();
+    let i = d.total() - left;
+    if entries::entry_matches(image, kind, at, i, by.class, by.sub) {
         return false;
     }
-    if entries::class_at(image, kind, d.place, i) == kind.lead {
+    if entries::class_at(image, kind, at, i) == kind.lead {
         return depth == 0;
     }
     true
@@ -107,13 +113,27 @@ fn pass_by(image: &[u8], by: Search, d: Directory, depth: u32, left: u32, tested
 {
     let mut rest = left;
     while 0 < rest {
-        if passes(image, by, d, depth, d.total - rest) {
+        if passes(image, by, d, depth, rest) {
             rest -= 1;
         } else {
             return rest;
         }
     }
     rest
+}
+
+// The match of the first of the last entries of a directory, by its count.
+fn match_at(d: Directory, left: u32, tested: u32) -> ImageMatch
+    requires { ⌜ left ≤ d .total ⌝ }
+    ensures { λ r. ⌜ r ≡ matchIn d (d .total - left) tested ⌝ }
+{
+    let i = d.total() - left;
+    ImageMatch {
+        place: d.place(),
+        level: d.level(),
+        index: i,
+        tested: tested,
+    }
 }
 
 // The walk of a directory, with so many levels left below it, after so many entries tested.
@@ -127,7 +147,7 @@ fn walk_directory(
     requires { ⌜ Small (now image) (by .rules .limit) depth (d .total) (d .total) tested ⌝ }
     ensures { λ r. ⌜ toldImageMatch r ≡ firstIn (by .rules .kind) (now (image .entry)) (by .class) (by .sub) (walkOf depth (by .rules) (now (image .entry)) d) tested ⌝ }
 {
-    walk_entry(image, by, d, depth, d.total, tested)
+    walk_entry(image, by, d, depth, d.total(), tested)
 }
 
 // The walk of the last entries of a directory, so many as are left.
@@ -147,17 +167,8 @@ fn walk_entry(
     if rest == 0 {
         return ImageMatchAnswer::Absent(seen);
     }
-    let i = d.total - rest;
-    match probe_entry(image, by, d, depth, i) {
-        Probe::Match => {
-            let place = d.place;
-            ImageMatchAnswer::Given(ImageMatch {
-                place: place,
-                level: d.level,
-                index: i,
-                tested: seen + 1,
-            })
-        }
+    match probe_entry(image, by, d, depth, rest) {
+        Probe::Match => ImageMatchAnswer::Given(match_at(d, rest, seen + 1)),
         Probe::Pass => walk_entry(image, by, d, depth, rest - 1, seen + 1),
         Probe::Enter(n) => match walk_directory(image, by, n, depth - 1, seen + 1) {
             ImageMatchAnswer::Given(f) => ImageMatchAnswer::Given(f),

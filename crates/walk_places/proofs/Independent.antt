@@ -7,7 +7,6 @@ use Prim.Native.Nat.{ℕ, zero, suc, _+_, _<_, _≤_}
 use native.Mathlib.Omega.{arith}
 use borrow.Author.Tests.{eqb-true}
 use lib.Dec.{leb, eqb}
-use Rattle.le.specs.Le.{Bytes}
 use Rattle.reply.specs.Reply.{Reply, Carried, given, refused, tested, guard, then}
 use Rattle.reply.proofs.ReplyLaws.{then-given, then-same}
 use Rattle.window.specs.Window.{fourGiB, offsetIn, within}
@@ -23,8 +22,8 @@ use Rattle.entries.specs.Entry.{entryOf}
 use Rattle.entries.specs.Good.{Leads, Matches}
 use Rattle.entries.proofs.Accept.{all-entry}
 use Rattle.entries.proofs.Independent.{entries-independence}
-use Rattle.entries.proofs.PartAccept.{parts-accepted}
-use Rattle.efs.specs.Rules.{longest}
+use Rattle.entries.proofs.PartAccept.{two-bits}
+use Rattle.window.specs.Length.{longest}
 use Rattle.efs.specs.Efs.{efsPlace, efsAt, efsIn, pointerTo, pointerOf, pointerIn}
 use Rattle.efs.specs.declared.Efs.{Efs}
 use Rattle.efs.specs.declared.Pointer.{Pointer}
@@ -88,7 +87,7 @@ module _ (r : Rules) (s t : List ℕ) (wide : 16 ≤ r .kind .entry) where
   match-back : (n : Directory) → Agree s t (n .place .0) (endOf (r .kind) n) → (class sub i : ℕ) → i < n .total → Matches (r .kind) t n class sub i → Matches (r .kind) s n class sub i
   match-back n a class sub i h = subst (λ (e : Entry). (e .class ≡ class) × (e .subprogram ≡ sub)) (sym (same-entry n a i h))
 
-module _ (r : Rules) (s t : List ℕ) (class sub : ℕ) (fits : r .window ≤ fourGiB) (wide : 16 ≤ r .kind .entry) (bytes : Bytes s) (way : SameWalk r s t class sub) where
+module _ (r : Rules) (s t : List ℕ) (class sub : ℕ) (fits : r .window ≤ fourGiB) (wide : 16 ≤ r .kind .entry) (way : SameWalk r s t class sub) where
   -- ---- the way to level one
   pointer-same : (p : ℕ) → pointerTo (r .window) s p ≡ pointerTo (r .window) t p
   unfolding pointerTo
@@ -139,13 +138,13 @@ module _ (r : Rules) (s t : List ℕ) (class sub : ℕ) (fits : r .window ≤ fo
     -- what a lead that the walk comes to leads to
     led-same : (i : ℕ) → i < d .total → Leads (r .kind) s d i → Reached r s d class sub (below i 0) → ledTo r s d i ≡ ledTo r t d i
     led-same i h l w =
-        two-same r fits s t (way .long) (d .place .0) (entryOf (r .kind) s d i) (parts-accepted .two-bits s _ bytes)
+        two-same r fits s t (way .long) (d .place .0) (entryOf (r .kind) s d i) (two-bits s _)
         (λ o b k. independence .directory (r .kind) (r .limit) 2 s t o wide (way .two d opens i h l w o b k))
         ∙ ap (levelTwoAt r t (d .place .0)) (entry-same i h)
 
     agree-two : (i : ℕ) (n : Directory) → Enters r s d i n → Reached r s d class sub (below i 0) → Agree s t (n .place .0) (endOf (r .kind) n)
     agree-two i n e w =
-        let g = leads-told r s d i fits bytes .given-only n (e .directory) in
+        let g = leads-told r s d i fits .given-only n (e .directory) in
         let p = g .1 .present in
         agree-given r s t n (g .1) (way .two d opens i (e .inside) (e .lead) w (n .place .0) (g .0) (omega arith))
 

@@ -16,11 +16,12 @@ use Rattle.directory.specs.Good.{GoodDirectory}
 use Rattle.directory.proofs.Accept.{acceptance}
 use Rattle.entries.specs.declared.Entry.{Entry}
 use Rattle.entries.specs.Entry.{entryOf}
+use Rattle.window.specs.declared.Offset.{Offset}
 use Rattle.entries.specs.Part.{placeIn, leadsTo}
 use Rattle.entries.specs.Good.{BeginsAt}
 use Rattle.entries.proofs.Parts.{lead-mode}
 use Rattle.entries.proofs.Independent.{leads-same}
-use Rattle.entries.proofs.PartAccept.{lead-fact, lead-given, parts-accepted}
+use Rattle.entries.proofs.PartAccept.{two-bits, lead-fact, lead-given}
 use Rattle.efs.specs.declared.Rules.{Rules}
 use Rattle.flash.specs.Flash.{levelTwoAt}
 use Rattle.walk.proofs.Alone.{level-alone}
@@ -52,11 +53,11 @@ then-seven (refused n c) next f g = λ number carried e. let q : n ≡ 7 = f n c
 -- ---- where an entry leads, and the checks of the directory there; the laws up to `outside-refused` alone look into `leadsTo`
 module _ (r : Rules) (s : List ℕ) (o : ℕ) (e : Entry) where
   -- a directory is given at some place
-  somewhere : (n : Directory) → levelTwoAt r s o e ≡ given n → (place : ℕ) × (leadsTo (r .window) s o e ≡ given place) × (directoryAt (r .kind) (r .limit) 2 s place ≡ given n)
-  somewhere n q = let t = then-given (leadsTo (r .window) s o e) (directoryAt (r .kind) (r .limit) 2 s) q in (t .0, t .1, t .2)
+  somewhere : (n : Directory) → levelTwoAt r s o e ≡ given n → (place : Offset) × (leadsTo (r .window) s o e ≡ given place) × (directoryAt (r .kind) (r .limit) 2 s (place .0) ≡ given n)
+  somewhere n q = let t = then-given (leadsTo (r .window) s o e) (λ p. directoryAt (r .kind) (r .limit) 2 s (p .0)) q in (t .0, t .1, t .2)
 
-  led : (x : Reply ℕ) → leadsTo (r .window) s o e ≡ x → levelTwoAt r s o e ≡ then x (directoryAt (r .kind) (r .limit) 2 s)
-  led x q = ap (λ (x : Reply ℕ). then x (directoryAt (r .kind) (r .limit) 2 s)) q
+  led : (x : Reply Offset) → leadsTo (r .window) s o e ≡ x → levelTwoAt r s o e ≡ then x (λ p. directoryAt (r .kind) (r .limit) 2 s (p .0))
+  led x q = ap (λ (x : Reply Offset). then x (λ p. directoryAt (r .kind) (r .limit) 2 s (p .0))) q
 
   -- without mode 3 a place is refused with 7
   lead-seven : (e .mode ≡ 3 → ⊥) → Seven (leadsTo (r .window) s o e)
@@ -79,7 +80,7 @@ module _ (r : Rules) (s : List ℕ) (o : ℕ) (e : Entry) where
   module _ (fits : r .window ≤ fourGiB) where
     -- at a place in the image the directory's checks decide
     pub by-directory : (place : ℕ) → BeginsAt (r .window) o e place → place ≤ length s → levelTwoAt r s o e ≡ directoryAt (r .kind) (r .limit) 2 s place
-    by-directory place b h = led (given place) (lead-given (r .window) fits s o e place b h)
+    by-directory place b h = led (given (record { 0 = place })) (lead-given (r .window) fits s o e (record { 0 = place }) b h)
 
     -- how what an entry leads to is refused
     pub refused-for : e .mode ≤ 3 → (number : ℕ) (carried : Carried) → levelTwoAt r s o e ≡ refused number carried → WhyFault r s o e number
@@ -91,13 +92,13 @@ module _ (r : Rules) (s : List ℕ) (o : ℕ) (e : Entry) where
 
         beyond : (n : ℕ) (c : Carried) → leadsTo (r .window) s o e ≡ refused n c → (place : ℕ) → BeginsAt (r .window) o e place → Compared (length s) place → length s < place
         beyond n c p place b (less h) = h
-        beyond n c p place b (equal h) = clash (sym p ∙ lead-given (r .window) fits s o e place b (omega arith))
-        beyond n c p place b (more h) = clash (sym p ∙ lead-given (r .window) fits s o e place b (omega arith))
+        beyond n c p place b (equal h) = clash (sym p ∙ lead-given (r .window) fits s o e (record { 0 = place }) b (omega arith))
+        beyond n c p place b (more h) = clash (sym p ∙ lead-given (r .window) fits s o e (record { 0 = place }) b (omega arith))
 
-        by : (x : Reply ℕ) → leadsTo (r .window) s o e ≡ x → (b : Bool) → eqb (e .mode) 3 ≡ b → WhyFault r s o e number
+        by : (x : Reply Offset) → leadsTo (r .window) s o e ≡ x → (b : Bool) → eqb (e .mode) 3 ≡ b → WhyFault r s o e number
         by (given place) p b c =
             let f = lead-fact (r .window) fits s o e place m p in
-            bad-directory place (f .0) (f .1) (sym (led (given place) p) ∙ q ∙ ap (refused number) a)
+            bad-directory (place .0) (f .0) (f .1) (sym (led (given place) p) ∙ q ∙ ap (refused number) a)
         by (refused n w) p true c = let f = sym (by-mode (eqb-true _ _ c)) ∙ q in no-mode (eqb-true _ _ c) (cc f)
         by (refused n w) p false c =
             let three : e .mode ≡ 3 → ⊥ = eqb-false _ _ c in
@@ -110,11 +111,11 @@ module _ (r : Rules) (s : List ℕ) (o : ℕ) (e : Entry) where
     unfolding Seven
     outside-refused m three f = by (leadsTo (r .window) s o e) refl
       where
-        by : (x : Reply ℕ) → leadsTo (r .window) s o e ≡ x → levelTwoAt r s o e ≡ refused 7 alone
+        by : (x : Reply Offset) → leadsTo (r .window) s o e ≡ x → levelTwoAt r s o e ≡ refused 7 alone
         by (given place) p =
             let g = lead-fact (r .window) fits s o e place m p in
-            let h : place ≤ length s = g .1 in
-            let k = f place (g .0) in
+            let h : place .0 ≤ length s = g .1 in
+            let k = f (place .0) (g .0) in
             absurd (let z : ⊥ = omega arith in z)
         by (refused n w) p =
             let q = led (refused n w) p in
@@ -130,7 +131,7 @@ module _ (r : Rules) (s : List ℕ) (o : ℕ) (e : Entry) where
     given-at : e .mode ≤ 3 → (n : Directory) → levelTwoAt r s o e ≡ given n → BeginsAt (r .window) o e (n .place .0) × GoodDirectory (r .kind) (r .limit) s n × (n .level ≡ 2)
     given-at m n q =
         let t = somewhere n q in
-        let g = acceptance .only (r .kind) (r .limit) 2 s (t .0) n (t .2) in
+        let g = acceptance .only (r .kind) (r .limit) 2 s (t .0 .0) n (t .2) in
         (subst (BeginsAt (r .window) o e) (sym (g .1)) (lead-fact (r .window) fits s o e (t .0) m (t .1) .0), g .0, g .2)
 
     given-by : (n : Directory) → BeginsAt (r .window) o e (n .place .0) → GoodDirectory (r .kind) (r .limit) s n → n .level ≡ 2 → levelTwoAt r s o e ≡ given n
@@ -139,22 +140,22 @@ module _ (r : Rules) (s : List ℕ) (o : ℕ) (e : Entry) where
         by-directory (n .place .0) b (omega arith) ∙ ap (λ (level : ℕ). directoryAt (r .kind) (r .limit) level s (n .place .0)) (sym l) ∙ acceptance .all (r .kind) (r .limit) s n g
 
   pub level-two : (n : Directory) → levelTwoAt r s o e ≡ given n → n .level ≡ 2
-  level-two n q = let t = somewhere n q in acceptance .only (r .kind) (r .limit) 2 s (t .0) n (t .2) .2
+  level-two n q = let t = somewhere n q in acceptance .only (r .kind) (r .limit) 2 s (t .0 .0) n (t .2) .2
 
 -- two images of one length lead to one place, and the directory there decides
 pub two-same : (r : Rules) → r .window ≤ fourGiB → (s t : List ℕ) → length s ≡ length t → (o : ℕ) (e : Entry) → e .mode ≤ 3 →
     ((place : ℕ) → BeginsAt (r .window) o e place → place ≤ length s → directoryAt (r .kind) (r .limit) 2 s place ≡ directoryAt (r .kind) (r .limit) 2 t place) →
     levelTwoAt r s o e ≡ levelTwoAt r t o e
 two-same r fits s t long o e m f =
-    then-same (leadsTo (r .window) s o e) (directoryAt (r .kind) (r .limit) 2 s) (directoryAt (r .kind) (r .limit) 2 t)
-    (λ place q. let g = lead-fact (r .window) fits s o e place m q in f place (g .0) (g .1))
-    ∙ ap (λ (x : Reply ℕ). then x (directoryAt (r .kind) (r .limit) 2 t)) (leads-same (r .window) s t long o e)
+    then-same (leadsTo (r .window) s o e) (λ p. directoryAt (r .kind) (r .limit) 2 s (p .0)) (λ p. directoryAt (r .kind) (r .limit) 2 t (p .0))
+    (λ place q. let g = lead-fact (r .window) fits s o e place m q in f (place .0) (g .0) (g .1))
+    ∙ ap (λ (x : Reply Offset). then x (λ p. directoryAt (r .kind) (r .limit) 2 t (p .0))) (leads-same (r .window) s t long o e)
 
 pub leads-told : LeadsTold
-leads-told r s d i fits bytes =
+leads-told r s d i fits =
     let o = d .place .0 in
     let e = entryOf (r .kind) s d i in
-    let m : e .mode ≤ 3 = parts-accepted .two-bits s _ bytes in
+    let m : e .mode ≤ 3 = two-bits s _ in
     record {
       given-only = given-at r s o e fits m;
       given-all = given-by r s o e fits;

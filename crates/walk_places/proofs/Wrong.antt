@@ -10,7 +10,7 @@ use Rattle.reply.specs.Reply.{Reply, given, refused}
 use Rattle.reply.specs.Scan.{scan}
 use Rattle.reply.specs.Some.{someBelow}
 use Rattle.window.specs.Window.{baseWindow, offsetIn}
-use Rattle.directory.specs.Directory.{pspKind, directoryAt}
+use Rattle.directory.specs.Directory.{pspKind, directoryChecks}
 use Rattle.entries.specs.Part.{leadsTo}
 use Rattle.efs.specs.declared.Rules.{Rules}
 use Rattle.efs.specs.Efs.{candidateAt, pointerTo, pointerOf}
@@ -48,37 +48,37 @@ answer find w mode = image-lookup-by-places .settles find w rules (imageWith mod
 
 -- the match in level one's last entry, where the first leads to one
 walks-backwards : Lookup backwards → ⊥
-unfolding leAt leBytes wordsAt sumOf weightedOf fletcherOf scan someBelow offsetIn directoryAt leadsTo candidateAt pointerTo pointerOf flashDirectory entriesFrom belowOf firstIn entriesBack belowBack
+unfolding leAt leBytes wordsAt sumOf weightedOf fletcherOf scan someBelow offsetIn directoryChecks leadsTo candidateAt pointerTo pointerOf flashDirectory entriesFrom belowOf firstIn entriesBack belowBack
 walks-backwards w = let z : _≡_ {A = ℕ} 1 2 = ap (told (λ f. f .level)) (answer backwards w 1) in omega arith
 
 skips-level-two : Lookup skipsLevelTwo → ⊥
-unfolding leAt leBytes wordsAt sumOf weightedOf fletcherOf scan someBelow offsetIn directoryAt leadsTo candidateAt pointerTo pointerOf flashDirectory entriesFrom belowOf firstIn
+unfolding leAt leBytes wordsAt sumOf weightedOf fletcherOf scan someBelow offsetIn directoryChecks leadsTo candidateAt pointerTo pointerOf flashDirectory entriesFrom belowOf firstIn
 skips-level-two w = let z : _≡_ {A = ℕ} 1 2 = ap (told (λ f. f .level)) (answer skipsLevelTwo w 1) in omega arith
 
 -- mode 3: 16, and not the match behind it
 passes-faults : Lookup passesFaults → ⊥
-unfolding leAt leBytes wordsAt sumOf weightedOf fletcherOf scan someBelow offsetIn directoryAt leadsTo candidateAt pointerTo pointerOf flashDirectory entriesFrom belowOf firstIn faultless
+unfolding leAt leBytes wordsAt sumOf weightedOf fletcherOf scan someBelow offsetIn directoryChecks leadsTo candidateAt pointerTo pointerOf flashDirectory entriesFrom belowOf firstIn faultless
 passes-faults w = let z : _≡_ {A = ℕ} 1 16 = ap (told (λ f. f .level)) (answer passesFaults w 3) in omega arith
 
 level-one-first : Lookup levelOneFirst → ⊥
-unfolding leAt leBytes wordsAt sumOf weightedOf fletcherOf scan someBelow offsetIn directoryAt leadsTo candidateAt pointerTo pointerOf flashDirectory entriesFrom belowOf firstIn belowAll
+unfolding leAt leBytes wordsAt sumOf weightedOf fletcherOf scan someBelow offsetIn directoryChecks leadsTo candidateAt pointerTo pointerOf flashDirectory entriesFrom belowOf firstIn belowAll
 level-one-first w = let z : _≡_ {A = ℕ} 1 2 = ap (told (λ f. f .level)) (answer levelOneFirst w 1) in omega arith
 
 -- a count that leaves the lead out
 enters-first : Lookup entersFirst → ⊥
-unfolding leAt leBytes wordsAt sumOf weightedOf fletcherOf scan someBelow offsetIn directoryAt leadsTo candidateAt pointerTo pointerOf flashDirectory entriesFrom belowOf firstIn entriesLate
+unfolding leAt leBytes wordsAt sumOf weightedOf fletcherOf scan someBelow offsetIn directoryChecks leadsTo candidateAt pointerTo pointerOf flashDirectory entriesFrom belowOf firstIn entriesLate
 enters-first w = let z : _≡_ {A = ℕ} 2 3 = ap (told (λ f. f .tested)) (answer entersFirst w 1) in omega arith
 
 index-zero : Lookup indexZero → ⊥
-unfolding leAt leBytes wordsAt sumOf weightedOf fletcherOf scan someBelow offsetIn directoryAt leadsTo candidateAt pointerTo pointerOf flashDirectory entriesFrom belowOf firstIn
+unfolding leAt leBytes wordsAt sumOf weightedOf fletcherOf scan someBelow offsetIn directoryChecks leadsTo candidateAt pointerTo pointerOf flashDirectory entriesFrom belowOf firstIn
 index-zero w = let z : _≡_ {A = ℕ} 0 1 = ap (told (λ f. f .index)) (answer indexZero w 1) in omega arith
 
 made-up-count : Lookup madeUpCount → ⊥
-unfolding leAt leBytes wordsAt sumOf weightedOf fletcherOf scan someBelow offsetIn directoryAt leadsTo candidateAt pointerTo pointerOf flashDirectory entriesFrom belowOf firstIn
+unfolding leAt leBytes wordsAt sumOf weightedOf fletcherOf scan someBelow offsetIn directoryChecks leadsTo candidateAt pointerTo pointerOf flashDirectory entriesFrom belowOf firstIn
 made-up-count w = let z : _≡_ {A = ℕ} 4 3 = ap (told (λ f. f .tested)) (answer madeUpCount w 1) in omega arith
 
 finds-nothing : Lookup findsNothing → ⊥
-unfolding leAt leBytes wordsAt sumOf weightedOf fletcherOf scan someBelow offsetIn directoryAt leadsTo candidateAt pointerTo pointerOf flashDirectory entriesFrom belowOf firstIn
+unfolding leAt leBytes wordsAt sumOf weightedOf fletcherOf scan someBelow offsetIn directoryChecks leadsTo candidateAt pointerTo pointerOf flashDirectory entriesFrom belowOf firstIn
 finds-nothing w = let z : _≡_ {A = ℕ} 8 2 = ap (told (λ f. f .level)) (answer findsNothing w 1) in omega arith
 
 pub ruled-out : RuledOut

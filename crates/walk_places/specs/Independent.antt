@@ -3,7 +3,6 @@ use Prim.Native.Nat.{ℕ, _<_, _≤_}
 use mathlib.Core.Path.{_≡_}
 use mathlib.Core.List.{List}
 use lib.ListN.{length}
-use Rattle.le.specs.Le.{Bytes}
 use Rattle.le.specs.Field.{get}
 use Rattle.reply.specs.Reply.{given}
 use Rattle.window.specs.Window.{fourGiB}
@@ -39,7 +38,7 @@ pub record SameWalk (r : Rules) (image other : List ℕ) (class sub : ℕ) : Typ
 
 -- such images have the same answer, given or refused; by rules with a window that fits below 4 GiB, of a kind whose entries have 16 bytes or more
 abbrev pub Independent : Find → Type 0
-Independent find = (r : Rules) (image other : List ℕ) (class sub : ℕ) → r .window ≤ fourGiB → 16 ≤ r .kind .entry → Bytes image → SameWalk r image other class sub →
+Independent find = (r : Rules) (image other : List ℕ) (class sub : ℕ) → r .window ≤ fourGiB → 16 ≤ r .kind .entry → SameWalk r image other class sub →
     find r image class sub ≡ find r other class sub
 
 abbrev pub ImageIndependence : Type 0

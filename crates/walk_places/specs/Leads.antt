@@ -3,7 +3,6 @@ use Prim.Native.Nat.{ℕ, _<_, _≤_}
 use mathlib.Core.Path.{_≡_}
 use mathlib.Core.List.{List}
 use lib.ListN.{length}
-use Rattle.le.specs.Le.{Bytes}
 use Rattle.reply.specs.Reply.{Carried, given, refused, alone}
 use Rattle.window.specs.Window.{fourGiB}
 use Rattle.directory.specs.declared.Directory.{Directory}
@@ -24,7 +23,7 @@ pub data WhyFault (r : Rules) (image : List ℕ) (o : ℕ) (e : Entry) (number :
   -- it begins within the image, where no directory of level two is good: the number of its checks
   bad-directory : (place : ℕ) → BeginsAt (r .window) o e place → place ≤ length image → directoryAt (r .kind) (r .limit) 2 image place ≡ refused number alone → WhyFault r image o e number
 
--- of an entry of an image of bytes, by rules with a window that fits below 4 GiB
+-- by rules with a window that fits below 4 GiB
 pub record LeadTold (r : Rules) (image : List ℕ) (d : Directory) (i : ℕ) : Type 0 where
   -- it leads to a directory exactly where that is good and begins where the location says
   pub given-only : (n : Directory) → ledTo r image d i ≡ given n →
@@ -36,4 +35,4 @@ pub record LeadTold (r : Rules) (image : List ℕ) (d : Directory) (i : ℕ) : T
   pub refused-all : (number : ℕ) → WhyFault r image (d .place .0) (entryOf (r .kind) image d i) number → ledTo r image d i ≡ refused number alone
 
 abbrev pub LeadsTold : Type 0
-LeadsTold = (r : Rules) (image : List ℕ) (d : Directory) (i : ℕ) → r .window ≤ fourGiB → Bytes image → LeadTold r image d i
+LeadsTold = (r : Rules) (image : List ℕ) (d : Directory) (i : ℕ) → r .window ≤ fourGiB → LeadTold r image d i

@@ -1,3 +1,4 @@
 pub mod Told
 pub mod Cases
 pub mod Inside
+pub mod Length

@@ -1,6 +1,7 @@
 -- Flash offsets, x86 physical addresses, the window that leads from one to the other, and a place within an image. Assumes nothing: these are definitions.
 use Prim.Native.Nat.{ℕ, _-_}
 use mathlib.Core.List.{List}
+use mathlib.Core.Bool.{cond}
 use lib.ListN.{length}
 use lib.Dec.{leb}
 use Rattle.reply.specs.Reply.{Reply, given, refused, alone, guard}
@@ -27,6 +28,10 @@ offsetIn window a =
     guard (leb (windowStart window) a) 7
     (guard (leb a 0xFFFF_FFFF) 7
     (given (record { 0 = a - windowStart window })))
+
+-- the offset nearest to a place: that place, or the last offset, which lies beyond every image as a place that no offset can tell does
+abbrev pub nearestTo : (place : ℕ) → Offset
+nearestTo place = record { 0 = cond (leb place 0xFFFF_FFFF) place 0xFFFF_FFFF }
 
 -- a place beyond the image: 7
 abbrev pub within : {A : Type 0} → (image : List ℕ) → (place : ℕ) → (rest : Reply A) → Reply A

@@ -6,11 +6,17 @@ use Rattle.build.proofs.room_for.Tie as tie
 psp-kind-requires : tie.Need-psp-kind-requires
 psp-kind-requires c κs = search needs
 
+total-requires : tie.Need-total-requires
+total-requires c κs = search needs
+
 returns : tie.Need-returns
 returns c = search room-cases
 
 returns-2 : tie.Need-returns-2
 returns-2 c = search room-cases
+
+level-requires : tie.Need-level-requires
+level-requires c κs = search needs
 
 may-stand-requires : tie.Need-may-stand-requires
 may-stand-requires c κs = search needs
@@ -39,8 +45,8 @@ add-if6-2 c = search needs
 returns-5 : tie.Need-returns-5
 returns-5 c = search room-cases
 
-add-t20 : tie.Need-add-t20
-add-t20 c = search needs
+add-t22 : tie.Need-add-t22
+add-t22 c = search needs
 
 returns-6 : tie.Need-returns-6
 returns-6 c = search room-cases
@@ -53,8 +59,10 @@ room-for-spec =
     tie.close
     (tie.spec
     psp-kind-requires
+    total-requires
     returns
     returns-2
+    level-requires
     may-stand-requires
     holds-in-requires
     returns-3
@@ -64,6 +72,6 @@ room-for-spec =
     add-if6
     add-if6-2
     returns-5
-    add-t20
+    add-t22
     returns-6
     returns-7)

@@ -21,17 +21,17 @@ add-u32-at c = search needs
 u32-at-requires : tie.Need-u32-at-requires
 u32-at-requires c κs = search needs
 
-directory-at-requires : tie.Need-directory-at-requires
-directory-at-requires c κs = search needs
+checked-requires : tie.Need-checked-requires
+checked-requires c κs = search needs
 
 returns-2 : tie.Need-returns-2
-returns-2 c = by-one _ _ _ _ _ (c .before .before .before .u32-at .ensures) (c .before .before .before .before .if1 .left) (c .before .if2 .taken) _ (c .directory-at .ensures)
+returns-2 c = by-one _ _ _ _ _ (c .before .before .before .u32-at .ensures) (c .before .before .before .before .if1 .left) (c .before .if2 .taken) _ (c .checked .ensures)
 
-directory-at-requires-2 : tie.Need-directory-at-requires-2
-directory-at-requires-2 c κs = search needs
+checked-requires-2 : tie.Need-checked-requires-2
+checked-requires-2 c κs = search needs
 
 returns-3 : tie.Need-returns-3
-returns-3 c = by-two _ _ _ _ _ (c .before .before .before .before .before .u32-at .ensures) (c .before .before .before .before .before .before .if1 .left) (c .before .before .before .if2 .left) (c .before .if3 .taken) _ (c .directory-at2 .ensures)
+returns-3 c = by-two _ _ _ _ _ (c .before .before .before .before .before .u32-at .ensures) (c .before .before .before .before .before .before .if1 .left) (c .before .before .before .if2 .left) (c .before .if3 .taken) _ (c .checked2 .ensures)
 
 returns-4 : tie.Need-returns-4
 returns-4 c = by-neither _ _ _ _ _ (c .before .before .before .before .u32-at .ensures) (c .before .before .before .before .before .if1 .left) (c .before .before .if2 .left) (c .if3 .left)
@@ -45,8 +45,8 @@ directory-by-cookie-spec =
     returns
     add-u32-at
     u32-at-requires
-    directory-at-requires
+    checked-requires
     returns-2
-    directory-at-requires-2
+    checked-requires-2
     returns-3
     returns-4)

@@ -4,7 +4,7 @@ use borrow.Author.Needs.{needs}
 use Rattle.efs.specs.Efs.{pointerIn}
 use Rattle.efs.specs.Rules.{baseRules}
 use Rattle.efs.specs.declared.Rules.{Rules}
-use Rattle.efs.proofs.Length.{sized-on, sized-off}
+use Rattle.window.proofs.Length.{sized-on, sized-off}
 use Rattle.efs.proofs.flash_pointer.Statement.{statement}
 use Rattle.efs.proofs.flash_pointer.Tie as tie
 

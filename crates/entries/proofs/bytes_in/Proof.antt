@@ -5,6 +5,8 @@ use lib.ListN.{length, take, drop}
 use denote.Ref.{now}
 use Rattle.reply.specs.Reply.{given}
 use Rattle.entries.specs.Part.{partIn, bytesOf, beginOf, toldPart}
+use Rattle.window.specs.Length.{sized}
+use Rattle.window.proofs.Length.{sized-past}
 use Rattle.entries.proofs.Parts.{part-inside}
 use borrow.Author.Needs.{needs}
 use Rattle.entries.proofs.bytes_in.Statement.{statement}
@@ -17,12 +19,15 @@ enum-known-p : tie.Need-enum-known-p
 enum-known-p c = search needs
 
 -- the definition gives the part that came back
-is-given : (c : tie.After-struct-known) → let a = c .before .before .before .before .before .before .args in
-    partIn (a .kind) (a .window) (now (a .image)) (a .d) (a .i) ≡ given (c .before .before .p .given .0 .0)
-is-given c = sym (c .before .before .before .before .part-in .ensures) ∙ ap toldPart (c .before .before .p .given .1)
+is-given : (c : tie.After-struct-known2) → let a = c .before .before .before .before .before .before .before .args in
+    sized (now (a .image)) (partIn (a .kind) (a .window) (now (a .image)) (a .d) (a .i)) ≡ given (c .before .before .before .p .given .0 .0)
+is-given c = sym (c .before .before .before .before .before .part-in .ensures) ∙ ap toldPart (c .before .before .before .p .given .1)
 
-inside : (c : tie.After-struct-known) → let p = c .before .before .p .given .0 .0 in p .place + p .length ≤ length (now (c .before .before .before .before .before .before .args .image))
-inside c = let a = c .before .before .before .before .before .before .args in part-inside (a .kind) (a .window) (now (a .image)) (a .d) (a .i) (c .before .before .p .given .0 .0) (is-given c)
+inside : (c : tie.After-struct-known2) → let p = c .before .before .before .p .given .0 .0 in p .place .0 + p .length ≤ length (now (c .before .before .before .before .before .before .before .args .image))
+inside c = let a = c .before .before .before .before .before .before .before .args in part-inside (a .kind) (a .window) (now (a .image)) (a .d) (a .i) (c .before .before .before .p .given .0 .0) (sized-past (now (a .image)) _ (is-given c) .1)
+
+cast-start : tie.Need-cast-start
+cast-start c = search needs
 
 add-end : tie.Need-add-end
 add-end c = omega (arith, inside c)
@@ -50,11 +55,11 @@ part-result-end-2 c = search needs
 
 returns : tie.Need-returns
 returns c =
-    let a = c .before .before .before .before .before .before .before .args in
+    let a = c .before .before .before .before .before .before .before .before .args in
     let s = now (a .image) in
-    let p = c .before .before .before .p .given .0 .0 in
-    let n : p .place + p .length - p .place ≡ p .length = omega arith in
-    (ap (λ (n : ℕ). take n (drop (p .place) s)) n ∙ ap (bytesOf s) (sym (is-given (c .before))), ap (beginOf (a .image .ptr)) (sym (is-given (c .before))))
+    let p = c .before .before .before .before .p .given .0 .0 in
+    let n : p .place .0 + p .length - p .place .0 ≡ p .length = omega arith in
+    (ap (λ (n : ℕ). take n (drop (p .place .0) s)) n ∙ ap (bytesOf s) (sym (is-given (c .before))), ap (beginOf (a .image .ptr)) (sym (is-given (c .before))))
 
 returns-2 : tie.Need-returns-2
 returns-2 c =
@@ -69,6 +74,7 @@ bytes-in-spec =
     (tie.spec
     part-in-requires
     enum-known-p
+    cast-start
     add-end
     sub-result
     part-result-start

@@ -30,8 +30,8 @@ add-u32-at c = search needs
 u32-at-requires : tie.Need-u32-at-requires
 u32-at-requires c κs = search needs
 
-cast-t15 : tie.Need-cast-t15
-cast-t15 c = search needs
+cast-t16 : tie.Need-cast-t16
+cast-t16 c = search needs
 
 returns : tie.Need-returns
 returns c = fields-read _ _ _ _ _ _ _ (c .before .before .before .before .entry-place .ensures .0) (c .before .before .before .u64-at .ensures) (c .before .before .u8-at .ensures) (c .before .u8-at2 .ensures) (c .u32-at .ensures)
@@ -49,5 +49,5 @@ fields-at-spec =
     u8-at-requires-2
     add-u32-at
     u32-at-requires
-    cast-t15
+    cast-t16
     returns)

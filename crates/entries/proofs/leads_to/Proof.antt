@@ -1,53 +1,22 @@
-use Rattle.entries.proofs.Parts.{lead-cases}
+use mathlib.Core.Path.{sym, _∙_}
+use denote.Ref.{now}
 use borrow.Author.Needs.{needs}
+use Rattle.entries.specs.Part.{leadsTo}
+use Rattle.window.proofs.Length.{allowed-fact, sized-on, sized-off}
 use Rattle.entries.proofs.leads_to.Statement.{statement}
 use Rattle.entries.proofs.leads_to.Tie as tie
 
+length-allowed-requires : tie.Need-length-allowed-requires
+length-allowed-requires c κs = search needs
+
+place-of-requires : tie.Need-place-of-requires
+place-of-requires c κs = allowed-fact (now (c .before .before .before .args .image)) (sym (c .before .length-allowed .ensures) ∙ c .if1 .taken) .to
+
 returns : tie.Need-returns
-returns c = search lead-cases
-
-offset-requires : tie.Need-offset-requires
-offset-requires c κs = search needs
-
-enum-known-o : tie.Need-enum-known-o
-enum-known-o c = search needs
-
-place-in-requires : tie.Need-place-in-requires
-place-in-requires c κs = search needs
+returns c = let a = c .before .before .before .before .args in sized-on (now (a .image)) _ _ (c .before .before .length-allowed .ensures) (c .before .if1 .taken) (c .place-of .ensures)
 
 returns-2 : tie.Need-returns-2
-returns-2 c = search lead-cases
-
-enum-known-why : tie.Need-enum-known-why
-enum-known-why c = search needs
-
-returns-3 : tie.Need-returns-3
-returns-3 c = search lead-cases
-
-place-in-requires-2 : tie.Need-place-in-requires-2
-place-in-requires-2 c κs = search needs
-
-returns-4 : tie.Need-returns-4
-returns-4 c = search lead-cases
-
-place-in-requires-3 : tie.Need-place-in-requires-3
-place-in-requires-3 c κs = search needs
-
-returns-5 : tie.Need-returns-5
-returns-5 c = search lead-cases
+returns-2 c = let a = c .before .before .before .args in sized-off (now (a .image)) (leadsTo (a .window) (now (a .image)) (a .at .0) (a .e)) _ (c .before .length-allowed .ensures) (c .if1 .left)
 
 pub leads-to-spec : {M : Type 1} → statement M
-leads-to-spec =
-    tie.close
-    (tie.spec
-    returns
-    offset-requires
-    enum-known-o
-    place-in-requires
-    returns-2
-    enum-known-why
-    returns-3
-    place-in-requires-2
-    returns-4
-    place-in-requires-3
-    returns-5)
+leads-to-spec = tie.close (tie.spec length-allowed-requires place-of-requires returns returns-2)

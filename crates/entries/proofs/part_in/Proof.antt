@@ -1,34 +1,22 @@
-use mathlib.Core.Path.{_≡_, _∙_}
+use mathlib.Core.Path.{sym, _∙_}
 use denote.Ref.{now}
-use Rattle.reply.proofs.ReplyLaws.{then-told}
-use Rattle.entries.specs.Entry.{toldEntry}
-use Rattle.entries.specs.Part.{partOf}
 use borrow.Author.Needs.{needs}
+use Rattle.entries.specs.Part.{partIn}
+use Rattle.window.proofs.Length.{allowed-fact, sized-on, sized-off}
 use Rattle.entries.proofs.part_in.Statement.{statement}
 use Rattle.entries.proofs.part_in.Tie as tie
 
-entry-in-requires : tie.Need-entry-in-requires
-entry-in-requires c κs = search needs
+length-allowed-requires : tie.Need-length-allowed-requires
+length-allowed-requires c κs = search needs
 
-enum-known-e : tie.Need-enum-known-e
-enum-known-e c = search needs
-
-part-of-requires : tie.Need-part-of-requires
-part-of-requires c κs = search needs
-
-enum-known-why : tie.Need-enum-known-why
-enum-known-why c = search needs
+part-sized-requires : tie.Need-part-sized-requires
+part-sized-requires c κs = allowed-fact (now (c .before .before .before .args .image)) (sym (c .before .length-allowed .ensures) ∙ c .if1 .taken) .to
 
 returns : tie.Need-returns
-returns c =
-    let l = c .before .before .before .before in
-    let a = l .before .before .args in
-    c .part-of .ensures ∙ then-told toldEntry (partOf (a .kind) (a .window) (now (a .image)) (a .d .place .0)) (c .before .before .e .given .1) (l .entry-in .ensures)
+returns c = let a = c .before .before .before .before .args in sized-on (now (a .image)) _ _ (c .before .before .length-allowed .ensures) (c .before .if1 .taken) (c .part-sized .ensures)
 
 returns-2 : tie.Need-returns-2
-returns-2 c = then-told toldEntry _ (c .before .why .given .1) (c .before .before .before .entry-in .ensures)
+returns-2 c = let a = c .before .before .before .args in sized-off (now (a .image)) (partIn (a .kind) (a .window) (now (a .image)) (a .d) (a .i)) _ (c .before .length-allowed .ensures) (c .if1 .left)
 
 pub part-in-spec : {M : Type 1} → statement M
-part-in-spec =
-    tie.close
-    (tie.spec entry-in-requires enum-known-e part-of-requires enum-known-why returns returns-2)
+part-in-spec = tie.close (tie.spec length-allowed-requires part-sized-requires returns returns-2)

@@ -2,7 +2,8 @@ use borrow.Author.Tests.{eq-eqb, ne-eqb}
 use mathlib.Core.Path.{_≡_, _∙_}
 use denote.Ref.{now}
 use Rattle.reply.proofs.ReplyLaws.{then-told}
-use Rattle.entries.specs.Part.{partWithin, partOf, toldPlace}
+use Rattle.window.specs.Window.{toldOffset}
+use Rattle.entries.specs.Part.{partWithin, partOf}
 use borrow.Author.Needs.{needs}
 use Rattle.entries.proofs.part_of.Statement.{statement}
 use Rattle.entries.proofs.part_of.Tie as tie
@@ -14,8 +15,8 @@ returns : tie.Need-returns
 unfolding partOf
 returns c = simp (eq-eqb _ _ (c .if1 .taken))
 
-leads-to-requires : tie.Need-leads-to-requires
-leads-to-requires c κs = search needs
+place-of-requires : tie.Need-place-of-requires
+place-of-requires c κs = search needs
 
 enum-known-place : tie.Need-enum-known-place
 enum-known-place c = search needs
@@ -31,14 +32,14 @@ unfolding partOf
 returns-2 c =
     let l = c .before .before .before .before in
     let a = l .before .before .before .before .before .args in
-    simp (ne-eqb _ _ (l .before .if1 .left)) (c .part-within .ensures ∙ then-told toldPlace (partWithin (now (a .image)) (a .e .size)) (c .before .before .place .given .1) (l .leads-to .ensures))
+    simp (ne-eqb _ _ (l .before .if1 .left)) (c .part-within .ensures ∙ then-told toldOffset (partWithin (now (a .image)) (a .e .size)) (c .before .before .place .given .1) (l .place-of .ensures))
 
 returns-3 : tie.Need-returns-3
 unfolding partOf
 returns-3 c =
     let l = c .before .before .before in
     let a = l .before .before .before .before .before .args in
-    simp (ne-eqb _ _ (l .before .if1 .left)) (then-told toldPlace (partWithin (now (a .image)) (a .e .size)) (c .before .why .given .1) (l .leads-to .ensures))
+    simp (ne-eqb _ _ (l .before .if1 .left)) (then-told toldOffset (partWithin (now (a .image)) (a .e .size)) (c .before .why .given .1) (l .place-of .ensures))
 
 pub part-of-spec : {M : Type 1} → statement M
 part-of-spec =
@@ -46,7 +47,7 @@ part-of-spec =
     (tie.spec
     cast-if1
     returns
-    leads-to-requires
+    place-of-requires
     enum-known-place
     part-within-requires
     enum-known-why

@@ -8,26 +8,23 @@ use borrow.Author.Needs.{needs}
 use Rattle.entries.proofs.part_within.Statement.{statement}
 use Rattle.entries.proofs.part_within.Tie as tie
 
+cast-if1 : tie.Need-cast-if1
+cast-if1 c = search needs
+
+add-if1 : tie.Need-add-if1
+add-if1 c = search needs
+
 returns : tie.Need-returns
 unfolding partWithin
 returns c =
-    let a = c .before .args in
-    simp (lt-leb (a .place + a .size) (length (now (a .image))) (omega arith))
-
-sub-if2 : tie.Need-sub-if2
-sub-if2 c = search needs
+    let a = c .before .before .args in
+    simp (lt-leb (a .place .0 + a .size) (length (now (a .image))) (omega arith))
 
 returns-2 : tie.Need-returns-2
 unfolding partWithin
 returns-2 c =
     let a = c .before .before .args in
-    simp (lt-leb (a .place + a .size) (length (now (a .image))) (omega arith))
-
-returns-3 : tie.Need-returns-3
-unfolding partWithin
-returns-3 c =
-    let a = c .before .before .args in
-    simp (le-leb (a .place + a .size) (length (now (a .image))) (omega arith))
+    simp (le-leb (a .place .0 + a .size) (length (now (a .image))) (omega arith))
 
 pub part-within-spec : {M : Type 1} → statement M
-part-within-spec = tie.close (tie.spec returns sub-if2 returns-2 returns-3)
+part-within-spec = tie.close (tie.spec cast-if1 add-if1 returns returns-2)

@@ -3,7 +3,6 @@ use borrow.Author.Tests.{le-leb, lt-leb}
 use Prim.Native.Nat.{_+_}
 use lib.ListN.{length}
 use denote.Ref.{now}
-use Rattle.entries.specs.Part.{placeIn}
 use borrow.Author.Needs.{needs}
 use Rattle.entries.proofs.place_in.Statement.{statement}
 use Rattle.entries.proofs.place_in.Tie as tie
@@ -24,10 +23,13 @@ returns-2 c =
 add-t6 : tie.Need-add-t6
 add-t6 c = search needs
 
+cast-t11 : tie.Need-cast-t11
+cast-t11 c = search needs
+
 returns-3 : tie.Need-returns-3
 returns-3 c =
     let a = c .before .before .args in
     simp (le-leb (a .base + a .location) (length (now (a .image))) (omega arith))
 
 pub place-in-spec : {M : Type 1} → statement M
-place-in-spec = tie.close (tie.spec returns sub-if2 returns-2 add-t6 returns-3)
+place-in-spec = tie.close (tie.spec returns sub-if2 returns-2 add-t6 cast-t11 returns-3)

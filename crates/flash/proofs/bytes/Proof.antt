@@ -1,4 +1,4 @@
-use mathlib.Core.Path.{_≡_, ap, _∙_}
+use mathlib.Core.Path.{_≡_, sym, ap, _∙_}
 use Prim.Native.Nat.{ℕ, _+_}
 use native.Mathlib.Omega.{arith}
 use denote.Ref.{now}
@@ -8,6 +8,8 @@ use Rattle.directory.specs.Directory.{toldDirectory}
 use Rattle.entries.specs.Part.{partIn, bytesOf, beginOf}
 use Rattle.efs.specs.declared.Rules.{Rules}
 use Rattle.flash.specs.Flash.{flashPart}
+use Rattle.window.proofs.Length.{sized-passed}
+use Rattle.flash.proofs.Ways.{opened-small}
 use Rattle.flash.proofs.bytes.Statement.{statement}
 use Rattle.flash.proofs.bytes.Tie as tie
 
@@ -41,8 +43,10 @@ returns c =
     let b = f .before in
     let a = b .before .before .args in
     let s = now (a .image) in
+    let d = c .before .before .d .given in
     let e =
-    then-told toldDirectory (λ d. partIn (b .base-rules .result .kind) (b .base-rules .result .window) s d (a .i)) (c .before .before .d .given .1) (f .flash-directory .ensures)
+    sized-passed s _ (opened-small (b .base-rules .result) s (d .0 .0) (a .level) (sym (f .flash-directory .ensures) ∙ ap toldDirectory (d .1)) .0)
+    ∙ then-told toldDirectory (λ d. partIn (b .base-rules .result .kind) (b .base-rules .result .window) s d (a .i)) (d .1) (f .flash-directory .ensures)
     ∙ ap (λ (r : Rules). flashPart r (a .level) s (a .i)) (b .base-rules .ensures) in
     (c .bytes-in .ensures .0 ∙ ap (bytesOf s) e, c .bytes-in .ensures .1 ∙ ap (beginOf (a .image .ptr)) e)
 

@@ -3,7 +3,7 @@ use denote.Ref.{now}
 use borrow.Author.Needs.{needs}
 use borrow.Author.Tests.{le-leb, lt-leb}
 use Rattle.reply.proofs.ReplyLaws.{passed, failed}
-use Rattle.efs.proofs.Length.{allowed-fact, sized-on, sized-off}
+use Rattle.window.proofs.Length.{sized-on, sized-off}
 use Rattle.flash.specs.Flash.{levelOf, flashDirectory}
 use Rattle.flash.proofs.flash_directory.Statement.{statement}
 use Rattle.flash.proofs.flash_directory.Tie as tie
@@ -21,8 +21,7 @@ length-allowed-requires c κs = search needs
 
 level-of-requires : tie.Need-level-of-requires
 level-of-requires c κs =
-    let t = c .before .before in
-    allowed-fact (now (t .before .before .before .args .image)) (sym (c .before .length-allowed .ensures) ∙ c .if3 .taken) .to
+    sym (c .before .length-allowed .ensures) ∙ c .if3 .taken
 
 returns-3 : tie.Need-returns-3
 unfolding flashDirectory

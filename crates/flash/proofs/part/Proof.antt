@@ -1,4 +1,4 @@
-use mathlib.Core.Path.{_≡_, ap, _∙_}
+use mathlib.Core.Path.{_≡_, sym, ap, _∙_}
 use denote.Ref.{now}
 use borrow.Author.Needs.{needs}
 use Rattle.reply.proofs.ReplyLaws.{then-told}
@@ -6,6 +6,8 @@ use Rattle.directory.specs.Directory.{toldDirectory}
 use Rattle.entries.specs.Part.{partIn}
 use Rattle.efs.specs.declared.Rules.{Rules}
 use Rattle.flash.specs.Flash.{flashPart}
+use Rattle.window.proofs.Length.{sized-passed}
+use Rattle.flash.proofs.Ways.{opened-small}
 use Rattle.flash.proofs.part.Statement.{statement}
 use Rattle.flash.proofs.part.Tie as tie
 
@@ -30,7 +32,9 @@ returns c =
     let b = f .before in
     let a = b .before .before .args in
     let s = now (a .image) in
-    c .part-in .ensures ∙ then-told toldDirectory (λ d. partIn (b .base-rules .result .kind) (b .base-rules .result .window) s d (a .i)) (c .before .before .d .given .1) (f .flash-directory .ensures)
+    let d = c .before .before .d .given in
+    c .part-in .ensures ∙ sized-passed s _ (opened-small (b .base-rules .result) s (d .0 .0) (a .level) (sym (f .flash-directory .ensures) ∙ ap toldDirectory (d .1)) .0)
+    ∙ then-told toldDirectory (λ d. partIn (b .base-rules .result .kind) (b .base-rules .result .window) s d (a .i)) (c .before .before .d .given .1) (f .flash-directory .ensures)
     ∙ ap (λ (r : Rules). flashPart r (a .level) s (a .i)) (b .base-rules .ensures)
 
 returns-2 : tie.Need-returns-2

@@ -1,6 +1,8 @@
-use mathlib.Core.Path.{sym, ap, _∙_}
+use mathlib.Core.Path.{_≡_, sym, ap, _∙_}
 use Rattle.lent.proofs.Laws.{given-number, given-words, alone-number, alone-words}
+use Rattle.reply.specs.Reply.{given}
 use Rattle.directory.specs.Directory.{toldDirectory}
+use Rattle.directory.specs.declared.Directory.{Directory}
 use Rattle.flash_words.specs.Images.{layDirectory}
 use borrow.Author.Needs.{needs}
 use Rattle.flash_words.proofs.directory.Statement.{statement}
@@ -12,14 +14,23 @@ directory-requires c κs = search needs
 enum-known-d : tie.Need-enum-known-d
 enum-known-d c = search needs
 
-cast-t10 : tie.Need-cast-t10
-cast-t10 c = search needs
+place-requires : tie.Need-place-requires
+place-requires c κs = search needs
 
-cast-t11 : tie.Need-cast-t11
-cast-t11 c = search needs
+level-requires : tie.Need-level-requires
+level-requires c κs = search needs
+
+total-requires : tie.Need-total-requires
+total-requires c κs = search needs
 
 cast-t12 : tie.Need-cast-t12
 cast-t12 c = search needs
+
+cast-t13 : tie.Need-cast-t13
+cast-t13 c = search needs
+
+cast-t14 : tie.Need-cast-t14
+cast-t14 c = search needs
 
 slice-aggregate-put : tie.Need-slice-aggregate-put
 slice-aggregate-put c = search needs
@@ -38,10 +49,16 @@ same-length c = search needs
 
 returns : tie.Need-returns
 returns c =
-    let g = c .before .before .before .before .before .before .before .before .before .before .d .given in
-    let is = sym (c .before .before .before .before .before .before .before .before .before .before .before .before .directory .ensures) ∙ ap toldDirectory (g .1) in
+    let m = c .before .before .before .before .before .before in
+    let g = m .before .before .before .before .d .given in
+    let place = m .before .before .place in
+    let level = m .before .level in
+    let total = m .total in
+    let told : Directory = record { place = place .result; level = level .result; total = total .result } in
+    let same : told ≡ g .0 .0 = λ j. record { place = place .ensures j; level = level .ensures j; total = total .ensures j } in
+    let is = sym (m .before .before .before .before .before .before .directory .ensures) ∙ ap toldDirectory (g .1) ∙ ap given (sym same) in
     let p = c .before .before .put in
-    (given-number layDirectory _ _ (g .0 .0) _ is (p .ensures .0), given-words layDirectory _ _ (g .0 .0) _ is (p .ensures .1))
+    (given-number layDirectory _ _ told _ is (p .ensures .0), given-words layDirectory _ _ told _ is (p .ensures .1))
 
 returns-2 : tie.Need-returns-2
 returns-2 c =
@@ -55,9 +72,12 @@ directory-spec =
     (tie.spec
     directory-requires
     enum-known-d
-    cast-t10
-    cast-t11
+    place-requires
+    level-requires
+    total-requires
     cast-t12
+    cast-t13
+    cast-t14
     slice-aggregate-put
     put-requires
     enum-known-why

@@ -12,6 +12,9 @@ part-requires c κs = search needs
 enum-known-p : tie.Need-enum-known-p
 enum-known-p c = search needs
 
+cast-place : tie.Need-cast-place
+cast-place c = search needs
+
 slice-aggregate-put : tie.Need-slice-aggregate-put
 slice-aggregate-put c = search needs
 
@@ -29,8 +32,8 @@ same-length c = search needs
 
 returns : tie.Need-returns
 returns c =
-    let g = c .before .before .before .before .before .before .p .given in
-    let is = sym (c .before .before .before .before .before .before .before .before .part .ensures) ∙ ap toldPart (g .1) in
+    let g = c .before .before .before .before .before .before .before .p .given in
+    let is = sym (c .before .before .before .before .before .before .before .before .before .part .ensures) ∙ ap toldPart (g .1) in
     let p = c .before .before .put in
     (given-number layPart _ _ (g .0 .0) _ is (p .ensures .0), given-words layPart _ _ (g .0 .0) _ is (p .ensures .1))
 
@@ -46,6 +49,7 @@ part-spec =
     (tie.spec
     part-requires
     enum-known-p
+    cast-place
     slice-aggregate-put
     put-requires
     enum-known-why

@@ -1,4 +1,4 @@
-use mathlib.Core.Path.{_≡_, ap, _∙_}
+use mathlib.Core.Path.{_≡_, sym, ap, _∙_}
 use Prim.Native.Nat.{ℕ, _+_}
 use native.Mathlib.Omega.{arith}
 use denote.Ref.{now}
@@ -8,6 +8,8 @@ use Rattle.directory.specs.Directory.{toldDirectory}
 use Rattle.entries.specs.Part.{partIn, bytesOf, beginOf}
 use Rattle.efs.specs.declared.Rules.{Rules}
 use Rattle.place.specs.Place.{partAt}
+use Rattle.window.proofs.Length.{sized-passed}
+use Rattle.place.proofs.View.{checked-long}
 use Rattle.place.proofs.bytes_at.Statement.{statement}
 use Rattle.place.proofs.bytes_at.Tie as tie
 
@@ -41,9 +43,11 @@ returns c =
     let b = f .before in
     let a = b .before .before .args in
     let s = now (a .image) in
+    let d = c .before .before .d .given in
     let e =
-    then-told toldDirectory (λ d. partIn (b .base-rules .result .kind) (b .base-rules .result .window) s d (a .i)) (c .before .before .d .given .1) (f .check-by .ensures)
-    ∙ ap (λ (r : Rules). partAt r s (a .place) (a .i)) (b .base-rules .ensures) in
+    sized-passed s _ (checked-long (b .base-rules .result) s (a .place .0) (d .0 .0) (sym (f .check-by .ensures) ∙ ap toldDirectory (d .1)))
+    ∙ then-told toldDirectory (λ d. partIn (b .base-rules .result .kind) (b .base-rules .result .window) s d (a .i)) (d .1) (f .check-by .ensures)
+    ∙ ap (λ (r : Rules). partAt r s (a .place .0) (a .i)) (b .base-rules .ensures) in
     (c .bytes-in .ensures .0 ∙ ap (bytesOf s) e, c .bytes-in .ensures .1 ∙ ap (beginOf (a .image .ptr)) e)
 
 returns-2 : tie.Need-returns-2
@@ -54,7 +58,7 @@ returns-2 c =
     let s = now (a .image) in
     let e =
     then-told toldDirectory (λ d. partIn (b .base-rules .result .kind) (b .base-rules .result .window) s d (a .i)) (c .before .enum-told .given .1) (f .check-by .ensures)
-    ∙ ap (λ (r : Rules). partAt r s (a .place) (a .i)) (b .base-rules .ensures) in
+    ∙ ap (λ (r : Rules). partAt r s (a .place .0) (a .i)) (b .base-rules .ensures) in
     let z : 0 + a .image .ptr .1 ≡ a .image .ptr .1 = omega arith in
     (ap (bytesOf s) e, ap (λ (n : ℕ). (a .image .ptr .0, n)) z ∙ ap (beginOf (a .image .ptr)) e)
 

@@ -15,7 +15,7 @@ check-by-requires c κs = search needs
 returns : tie.Need-returns
 returns c =
     let a = c .before .before .before .args in
-    c .check-by .ensures ∙ ap (λ (r : Rules). checkAt r (now (a .image)) (a .place)) (c .before .base-rules .ensures)
+    c .check-by .ensures ∙ ap (λ (r : Rules). checkAt r (now (a .image)) (a .place .0)) (c .before .base-rules .ensures)
 
 pub check-at-spec : {M : Type 1} → statement M
 check-at-spec = tie.close (tie.spec base-rules-requires check-by-requires returns)

@@ -31,7 +31,7 @@ returns c =
     let a = b .before .before .args in
     let s = now (a .image) in
     c .entry-in .ensures ∙ then-told toldDirectory (λ d. entryIn (b .base-rules .result .kind) s d (a .i)) (c .before .before .d .given .1) (f .check-by .ensures)
-    ∙ ap (λ (r : Rules). entryAt r s (a .place) (a .i)) (b .base-rules .ensures)
+    ∙ ap (λ (r : Rules). entryAt r s (a .place .0) (a .i)) (b .base-rules .ensures)
 
 returns-2 : tie.Need-returns-2
 returns-2 c =
@@ -40,7 +40,7 @@ returns-2 c =
     let a = b .before .before .args in
     let s = now (a .image) in
     then-told toldDirectory (λ d. entryIn (b .base-rules .result .kind) s d (a .i)) (c .before .why .given .1) (f .check-by .ensures)
-    ∙ ap (λ (r : Rules). entryAt r s (a .place) (a .i)) (b .base-rules .ensures)
+    ∙ ap (λ (r : Rules). entryAt r s (a .place .0) (a .i)) (b .base-rules .ensures)
 
 pub entry-at-spec : {M : Type 1} → statement M
 entry-at-spec =

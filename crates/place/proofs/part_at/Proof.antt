@@ -1,4 +1,4 @@
-use mathlib.Core.Path.{_≡_, ap, _∙_}
+use mathlib.Core.Path.{_≡_, sym, ap, _∙_}
 use denote.Ref.{now}
 use borrow.Author.Needs.{needs}
 use Rattle.reply.proofs.ReplyLaws.{then-told}
@@ -6,6 +6,8 @@ use Rattle.directory.specs.Directory.{toldDirectory}
 use Rattle.entries.specs.Part.{partIn}
 use Rattle.efs.specs.declared.Rules.{Rules}
 use Rattle.place.specs.Place.{partAt}
+use Rattle.window.proofs.Length.{sized-passed}
+use Rattle.place.proofs.View.{checked-long}
 use Rattle.place.proofs.part_at.Statement.{statement}
 use Rattle.place.proofs.part_at.Tie as tie
 
@@ -30,8 +32,10 @@ returns c =
     let b = f .before in
     let a = b .before .before .args in
     let s = now (a .image) in
-    c .part-in .ensures ∙ then-told toldDirectory (λ d. partIn (b .base-rules .result .kind) (b .base-rules .result .window) s d (a .i)) (c .before .before .d .given .1) (f .check-by .ensures)
-    ∙ ap (λ (r : Rules). partAt r s (a .place) (a .i)) (b .base-rules .ensures)
+    let d = c .before .before .d .given in
+    c .part-in .ensures ∙ sized-passed s _ (checked-long (b .base-rules .result) s (a .place .0) (d .0 .0) (sym (f .check-by .ensures) ∙ ap toldDirectory (d .1)))
+    ∙ then-told toldDirectory (λ d. partIn (b .base-rules .result .kind) (b .base-rules .result .window) s d (a .i)) (c .before .before .d .given .1) (f .check-by .ensures)
+    ∙ ap (λ (r : Rules). partAt r s (a .place .0) (a .i)) (b .base-rules .ensures)
 
 returns-2 : tie.Need-returns-2
 returns-2 c =
@@ -40,7 +44,7 @@ returns-2 c =
     let a = b .before .before .args in
     let s = now (a .image) in
     then-told toldDirectory (λ d. partIn (b .base-rules .result .kind) (b .base-rules .result .window) s d (a .i)) (c .before .why .given .1) (f .check-by .ensures)
-    ∙ ap (λ (r : Rules). partAt r s (a .place) (a .i)) (b .base-rules .ensures)
+    ∙ ap (λ (r : Rules). partAt r s (a .place .0) (a .i)) (b .base-rules .ensures)
 
 pub part-at-spec : {M : Type 1} → statement M
 part-at-spec =

@@ -1,6 +1,6 @@
 use mathlib.Core.Path.{_≡_, sym, ap, _∙_}
 use denote.Ref.{now}
-use Rattle.reply.proofs.ReplyLaws.{then-told}
+use Rattle.reply.proofs.ReplyLaws.{passed, then-told}
 use Rattle.directory.specs.declared.Kind.{Kind}
 use Rattle.entries.specs.Entry.{leadIn, toldEntry}
 use Rattle.efs.specs.Rules.{baseRules}
@@ -27,10 +27,11 @@ enum-known-why c = search needs
 returns : tie.Need-returns
 returns c =
     let l = c .before .before .before .before in
-    let a = l .before .before .before .args in
+    let b = l .before .before .before in
+    let a = b .args in
     let s = now (a .image) in
     let lead = l .lead-in .ensures ∙ ap (λ (k : Kind). leadIn k s (a .d)) (l .before .psp-kind .ensures) in
-    c .repeats-led .ensures ∙ then-told toldEntry (repeatsLed baseRules s (a .d)) (c .before .before .e .given .1) lead
+    c .repeats-led .ensures ∙ passed _ _ _ _ (b .pre) ∙ then-told toldEntry (repeatsLed baseRules s (a .d)) (c .before .before .e .given .1) lead
 
 returns-2 : tie.Need-returns-2
 returns-2 c =

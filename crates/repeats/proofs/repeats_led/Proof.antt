@@ -1,15 +1,22 @@
-use mathlib.Core.Path.{_≡_, sym, ap, _∙_}
-use native.Mathlib.Omega.{arith}
+use mathlib.Core.Path.{_≡_, ap, _∙_}
 use denote.Ref.{now}
+use Rattle.reply.specs.Reply.{then}
 use Rattle.reply.proofs.ReplyLaws.{then-told}
+use Rattle.window.specs.Window.{toldOffset}
+use Rattle.window.specs.Length.{sized}
+use Rattle.window.specs.declared.Offset.{Offset}
+use Rattle.window.proofs.Length.{sized-then}
 use Rattle.directory.specs.Repeat.{repeatedAt}
 use Rattle.directory.specs.declared.Kind.{Kind}
-use Rattle.entries.specs.Part.{toldPlace}
-use Rattle.entries.proofs.Parts.{lead-within}
+use Rattle.entries.specs.Part.{leadsTo}
 use Rattle.efs.specs.Rules.{baseRules}
+use Rattle.repeats.specs.Repeats.{repeatsLed}
 use borrow.Author.Needs.{needs}
 use Rattle.repeats.proofs.repeats_led.Statement.{statement}
 use Rattle.repeats.proofs.repeats_led.Tie as tie
+
+place-requires : tie.Need-place-requires
+place-requires c κs = search needs
 
 leads-to-requires : tie.Need-leads-to-requires
 leads-to-requires c κs = search needs
@@ -20,40 +27,36 @@ enum-known-place c = search needs
 psp-kind-requires : tie.Need-psp-kind-requires
 psp-kind-requires c κs = search needs
 
-cast-t9 : tie.Need-cast-t9
-cast-t9 c =
-    let p = c .before .before in
-    let l = p .before .before in
-    let a = l .before .before .args in
-    omega (arith, lead-within (baseRules .window) (now (a .image)) (a .d .place .0) (a .e) (p .place .given .0 .0) (sym (l .leads-to .ensures) ∙ ap toldPlace (p .place .given .1)))
-
 repeated-at-requires : tie.Need-repeated-at-requires
 repeated-at-requires c κs = search needs
 
 enum-known-why : tie.Need-enum-known-why
 enum-known-why c = search needs
 
+-- the steps from where the entry leads, and what comes after the length
+next : (c : tie.After-leads-to) → let a = c .before .before .before .args in
+    then (sized (now (a .image)) (leadsTo (baseRules .window) (now (a .image)) (c .before .place .result .0) (a .e))) (λ (p : Offset). repeatedAt (baseRules .kind) 512 2 (now (a .image)) (p .0))
+    ≡ sized (now (a .image)) (repeatsLed baseRules (now (a .image)) (a .d) (a .e))
+next c =
+    let a = c .before .before .before .args in
+    let s = now (a .image) in
+    sized-then s (leadsTo (baseRules .window) s (c .before .place .result .0) (a .e)) (λ (p : Offset). repeatedAt (baseRules .kind) 512 2 s (p .0))
+    ∙ ap (λ (o : Offset). sized s (then (leadsTo (baseRules .window) s (o .0) (a .e)) (λ (p : Offset). repeatedAt (baseRules .kind) 512 2 s (p .0)))) (c .before .place .ensures)
+
 returns : tie.Need-returns
 returns c =
     let p = c .before .before .before in
     let l = p .before .before in
-    let a = l .before .before .args in
-    let s = now (a .image) in
-    c .repeated-at .ensures ∙ ap (λ (k : Kind). repeatedAt k 512 2 s (p .place .given .0 .0)) (c .before .psp-kind .ensures)
-    ∙ then-told toldPlace (repeatedAt (baseRules .kind) 512 2 s) (p .place .given .1) (l .leads-to .ensures)
+    let s = now (l .before .before .before .args .image) in
+    c .repeated-at .ensures ∙ ap (λ (k : Kind). repeatedAt k 512 2 s (p .place2 .given .0 .0 .0)) (c .before .psp-kind .ensures)
+    ∙ then-told toldOffset (λ (p : Offset). repeatedAt (baseRules .kind) 512 2 s (p .0)) (p .place2 .given .1) (l .leads-to .ensures)
+    ∙ next l
 
 returns-2 : tie.Need-returns-2
-returns-2 c = then-told toldPlace _ (c .before .why .given .1) (c .before .before .before .leads-to .ensures)
+returns-2 c =
+    let l = c .before .before .before in
+    let s = now (l .before .before .before .args .image) in
+    then-told toldOffset (λ (p : Offset). repeatedAt (baseRules .kind) 512 2 s (p .0)) (c .before .why .given .1) (l .leads-to .ensures) ∙ next l
 
 pub repeats-led-spec : {M : Type 1} → statement M
-repeats-led-spec =
-    tie.close
-    (tie.spec
-    leads-to-requires
-    enum-known-place
-    psp-kind-requires
-    cast-t9
-    repeated-at-requires
-    enum-known-why
-    returns
-    returns-2)
+repeats-led-spec = tie.close (tie.spec place-requires leads-to-requires enum-known-place psp-kind-requires repeated-at-requires enum-known-why returns returns-2)

@@ -3,6 +3,7 @@ use denote.Ref.{now}
 use Rattle.reply.proofs.ReplyLaws.{then-told}
 use Rattle.directory.specs.Directory.{toldDirectory}
 use Rattle.efs.specs.Rules.{baseRules}
+use Rattle.window.proofs.Length.{allowed-test}
 use Rattle.flash.proofs.Ways.{opened}
 use Rattle.repeats.specs.Repeats.{repeatsBelow}
 use borrow.Author.Needs.{needs}
@@ -20,7 +21,7 @@ repeats-below-requires c κs =
     let p = c .before in
     let l = p .before .before in
     let a = l .before .before .args in
-    opened baseRules (now (a .image)) (p .d .given .0 .0) 1 (sym (l .directory .ensures) ∙ ap toldDirectory (p .d .given .1)) .0 .to
+    allowed-test (now (a .image)) (opened baseRules (now (a .image)) (p .d .given .0 .0) 1 (sym (l .directory .ensures) ∙ ap toldDirectory (p .d .given .1)) .0)
 
 enum-known-why : tie.Need-enum-known-why
 enum-known-why c = search needs

@@ -6,21 +6,23 @@ use contract.Running.{givenOf, tables, tablesOf}
 use Rattle.place.proofs.bytes_at as step
 use Rattle.place.proofs.bytes_at.Symbol as step-def
 use Rattle.place.proofs.bytes_at.Met as step-thm
-use Rattle.view.proofs.Results.{bytes}
-use Rattle.view.proofs.Taken as taken
+use Rattle.view.proofs.Answers.{bytes}
+use Rattle.view.proofs.Shared.{Says, meets}
+use Rattle.view.proofs.Taken.{promise, walk-indexed}
 use Rattle.view.proofs.view_bytes.Key.{name}
 use Rattle.view.proofs.view_bytes as view-bytes
 use Rattle.view.proofs.view_bytes.Statement as stated
 use Rattle.view.proofs.view_bytes.Code as code
 
-says : taken.Says bytes (λ M. view-bytes.clauses)
+says : Says (promise bytes) (λ M. view-bytes.clauses)
 says M 𝓤 H A mem run κs a = refl
 
 pub view-bytes-spec : {M : Type 1} → stated.statement M
 unfolding code.routine tablesOf
 view-bytes-spec 𝓤 H 𝓜 𝓖 𝓡 =
     let A = 𝓖 .A in
+    let W = givenOf 𝓤 H 𝓜 𝓖 in
     let run = tables 𝓤 H 𝓜 𝓡 code.env in
     entered 𝓤 H (tripleOf 𝓤 H A view-bytes.signature (view-bytes.spec 𝓤 H A (𝓜 .mem) (𝓡 .run))) (run .C) (run .Λ) name code.function (code.unfolded 𝓤 H 𝓜 𝓡)
-    (taken.meets bytes 𝓤 H A (givenOf 𝓤 H 𝓜 𝓖) step-def.name (tablesOf 𝓤 H 𝓜 run)
-    (cited 𝓤 H (tripleOf 𝓤 H A step.signature (step.spec 𝓤 H A (𝓜 .mem) (𝓡 .run))) 𝓜 𝓡 code.env step-def.name step-def.routine code.calls-place·bytes-at (step-thm.met 𝓤 H 𝓜 𝓖 𝓡)))
+    (meets (promise bytes) 𝓤 H A (tablesOf 𝓤 H 𝓜 run) code.function W (walk-indexed 𝓤 H A W step-def.name (tablesOf 𝓤 H 𝓜 run) bytes
+    (cited 𝓤 H (tripleOf 𝓤 H A step.signature (step.spec 𝓤 H A (𝓜 .mem) (𝓡 .run))) 𝓜 𝓡 code.env step-def.name step-def.routine code.calls-place·bytes-at (step-thm.met 𝓤 H 𝓜 𝓖 𝓡))))

@@ -1,19 +1,24 @@
-use mathlib.Core.Path.{sym, ap, _∙_}
+use mathlib.Core.Path.{_≡_, sym, ap, _∙_}
+use denote.Ref.{now}
 use Rattle.lent.proofs.Laws.{given-number, given-words, alone-number, alone-words}
+use Rattle.window.specs.declared.Offset.{Offset}
 use Rattle.entries.specs.Entry.{toldEntry}
+use Rattle.efs.specs.Rules.{baseRules}
+use Rattle.place.specs.Place.{entryAt}
+use Rattle.place.proofs.View.{nearest-place}
 use Rattle.flash_words.specs.Images.{layEntry}
 use borrow.Author.Needs.{needs}
 use Rattle.view_words.proofs.entry.Statement.{statement}
 use Rattle.view_words.proofs.entry.Tie as tie
+
+nearest-requires : tie.Need-nearest-requires
+nearest-requires c κs = search needs
 
 entry-from-requires : tie.Need-entry-from-requires
 entry-from-requires c κs = search needs
 
 enum-known-e : tie.Need-enum-known-e
 enum-known-e c = search needs
-
-cast-t10 : tie.Need-cast-t10
-cast-t10 c = search needs
 
 cast-t11 : tie.Need-cast-t11
 cast-t11 c = search needs
@@ -23,6 +28,9 @@ cast-t12 c = search needs
 
 cast-t13 : tie.Need-cast-t13
 cast-t13 c = search needs
+
+cast-t14 : tie.Need-cast-t14
+cast-t14 c = search needs
 
 slice-aggregate-put : tie.Need-slice-aggregate-put
 slice-aggregate-put c = search needs
@@ -43,25 +51,34 @@ returns : tie.Need-returns
 returns c =
     let p = c .before .before .put .ensures in
     let m = c .before .before .before .before .before .before .before .before .before .before in
-    let gives = sym (m .before .before .entry-from .ensures) ∙ ap toldEntry (m .e .given .1) in
+    let f = m .before .before in
+    let a = f .before .before .before .before .args in
+    let s = now (a .image) in
+    let asked = f .entry-from .ensures ∙ ap (λ (o : Offset). entryAt baseRules s (o .0) (a .i)) (f .before .nearest .ensures) ∙ nearest-place .entry baseRules s (a .place) (a .i) in
+    let gives = sym asked ∙ ap toldEntry (m .e .given .1) in
     (given-number layEntry _ _ (m .e .given .0 .0) _ gives (p .0), given-words layEntry _ _ (m .e .given .0 .0) _ gives (p .1))
 
 returns-2 : tie.Need-returns-2
 returns-2 c =
     let m = c .before .before in
-    let refuses = sym (m .before .before .entry-from .ensures) ∙ ap toldEntry (m .why .given .1) in
+    let f = m .before .before in
+    let a = f .before .before .before .before .args in
+    let s = now (a .image) in
+    let asked = f .entry-from .ensures ∙ ap (λ (o : Offset). entryAt baseRules s (o .0) (a .i)) (f .before .nearest .ensures) ∙ nearest-place .entry baseRules s (a .place) (a .i) in
+    let refuses = sym asked ∙ ap toldEntry (m .why .given .1) in
     (alone-number layEntry _ _ _ refuses, alone-words layEntry _ _ _ refuses)
 
 pub entry-spec : {M : Type 1} → statement M
 entry-spec =
     tie.close
     (tie.spec
+    nearest-requires
     entry-from-requires
     enum-known-e
-    cast-t10
     cast-t11
     cast-t12
     cast-t13
+    cast-t14
     slice-aggregate-put
     put-requires
     enum-known-why

@@ -1,16 +1,24 @@
-use mathlib.Core.Path.{sym, ap, _∙_}
+use mathlib.Core.Path.{_≡_, sym, ap, _∙_}
+use mathlib.Core.List.{List, [], _∷_}
+use denote.Ref.{now}
+use Rattle.lent.specs.Lent.{numberFor, wordsFor}
 use Rattle.lent.proofs.Laws.{given-number, given-words, alone-number, alone-words}
 use Rattle.directory.specs.Directory.{toldDirectory}
+use Rattle.window.specs.declared.Offset.{Offset}
+use Rattle.place.specs.Place.{heldPlace}
 use Rattle.flash_words.specs.Images.{layPlace}
 use borrow.Author.Needs.{needs}
 use Rattle.view_words.proofs.view.Statement.{statement}
 use Rattle.view_words.proofs.view.Tie as tie
 
+place-through-requires : tie.Need-place-through-requires
+place-through-requires c κs = search needs
+
 directory-requires : tie.Need-directory-requires
 directory-requires c κs = search needs
 
-enum-known-d : tie.Need-enum-known-d
-enum-known-d c = search needs
+enum-told : tie.Need-enum-told
+enum-told c = search needs
 
 cast-t9 : tie.Need-cast-t9
 cast-t9 c = search needs
@@ -32,23 +40,30 @@ same-length c = search needs
 
 returns : tie.Need-returns
 returns c =
-    let p = c .before .before .put .ensures in
-    let m = c .before .before .before .before .before .before .before in
-    let gives = sym (m .before .before .directory .ensures) ∙ ap toldDirectory (m .d .given .1) in
-    (given-number layPlace _ _ (m .d .given .0 .0) _ gives (p .0), given-words layPlace _ _ (m .d .given .0 .0) _ gives (p .1))
+    let p = c .before .before .put in
+    let d = c .before .before .before .before .before .before .enum-told .given in
+    let f = c .before .before .before .before .before .before .before .before in
+    let a = f .before .before .before .before .args in
+    let gives = sym (f .directory .ensures) ∙ ap toldDirectory (d .1) in
+    -- the place that the view keeps is that of the directory
+    let place = f .before .place-through .ensures ∙ ap heldPlace gives in (
+      given-number layPlace _ _ (d .0 .0) _ gives (p .ensures .0 ∙ ap (λ (o : Offset). numberFor 0 (o .0 ∷ []) (now (a .words))) place),
+      given-words layPlace _ _ (d .0 .0) _ gives (p .ensures .1 ∙ ap (λ (o : Offset). wordsFor (o .0 ∷ []) (now (a .words))) place),
+    )
 
 returns-2 : tie.Need-returns-2
 returns-2 c =
-    let m = c .before .before in
-    let refuses = sym (m .before .before .directory .ensures) ∙ ap toldDirectory (m .why .given .1) in
+    let w = c .before .before in
+    let refuses = sym (w .before .before .directory .ensures) ∙ ap toldDirectory (w .why .given .1) in
     (alone-number layPlace _ _ _ refuses, alone-words layPlace _ _ _ refuses)
 
 pub view-spec : {M : Type 1} → statement M
 view-spec =
     tie.close
     (tie.spec
+    place-through-requires
     directory-requires
-    enum-known-d
+    enum-told
     cast-t9
     slice-aggregate-put
     put-requires

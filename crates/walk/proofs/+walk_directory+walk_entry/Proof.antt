@@ -3,7 +3,8 @@ use Prim.Native.Nat.{_+_, _*_, _-_}
 use native.Mathlib.Omega.{arith}
 use borrow.Author.Needs.{needs}
 use denote.Ref.{now}
-use Rattle.walk.specs.Walk.{toldImageMatch}
+use Rattle.reply.specs.Reply.{given}
+use Rattle.walk.specs.Walk.{walkFrom, firstIn, toldImageMatch}
 use Rattle.walk.proofs.Steps.{walk-none, walk-whole, by-match, by-pass, by-fault, enter-facts, enter-given, enter-refused, enter-absent, enter-count}
 use Prim.Native.Nat.{ℕ, _<_}
 use borrow.Fn.Kinds.{In}
@@ -14,6 +15,8 @@ use Rattle.walk.proofs.+walk_directory+walk_entry.Lts-walk_directory as
 use Rattle.walk.proofs.walk_entry.Reads as walk-entry
 use Rattle.walk.proofs.walk_entry.Kinds as walk-entry-kinds
 use Rattle.walk.proofs.+walk_directory+walk_entry.Lts-walk_entry as walk-entry-lts
+use Rattle.directory.proofs.Directory.total.Reads as total-reads
+use Rattle.walk.proofs.match_at.Reads as match-at-reads
 use Rattle.walk.proofs.pass_by.Reads as pass-by-reads
 use Rattle.walk.proofs.probe_entry.Reads as probe-entry-reads
 use Rattle.walk.proofs.+walk_directory+walk_entry.{statement}
@@ -49,28 +52,40 @@ abbrev walk-entry-below : ℕ → In 1 walk-entry-kinds.ps
 walk-entry-below t =
     and 1 walk-entry-kinds.ps (falls 1 walk-entry-kinds.ps _<_ μ-walk-entry t) walk-entry.Pre
 
--- src/lib.rt:126:5
-walk-directory-walk-entry-requires : (t : ℕ) → walk-directory-lts.Need-walk-entry-requires (
+walk-directory-total-requires : (t : ℕ) → walk-directory-lts.Need-total-requires (
+  total-reads.Asked,
+  total-reads.Learnt,
   walk-entry-below t,
   walk-entry.Post,
 ) (walk-directory-at t) walk-directory.Post
-walk-directory-walk-entry-requires t c κs = search needs
+walk-directory-total-requires t c κs = search needs
 
--- src/lib.rt:122:1
+walk-directory-walk-entry-requires : (t : ℕ) → walk-directory-lts.Need-walk-entry-requires (
+  total-reads.Asked,
+  total-reads.Learnt,
+  walk-entry-below t,
+  walk-entry.Post,
+) (walk-directory-at t) walk-directory.Post
+walk-directory-walk-entry-requires t c κs = let n = c .total .ensures in omega arith
+
 walk-directory-returns : (t : ℕ) → walk-directory-lts.Need-returns (
+  total-reads.Asked,
+  total-reads.Learnt,
   walk-entry-below t,
   walk-entry.Post,
 ) (walk-directory-at t) walk-directory.Post
 walk-directory-returns t c =
-    let a = c .before .before .args in
-    c .walk-entry .ensures ∙ walk-whole (a .depth) (a .by .rules) (now (a .image)) (a .d) (a .by .class) (a .by .sub) (a .tested)
+    let a = c .before .before .before .args in
+    c .walk-entry .ensures ∙ ap (λ (n : ℕ). firstIn (a .by .rules .kind) (now (a .image)) (a .by .class) (a .by .sub) (walkFrom (a .depth) (a .by .rules) (now (a .image)) (a .d) n (a .d .total - n)) (a .tested)) (c .before .total .ensures)
+    ∙ walk-whole (a .depth) (a .by .rules) (now (a .image)) (a .d) (a .by .class) (a .by .sub) (a .tested)
 
--- src/lib.rt:134:9
 walk-entry-pass-by-requires : (t : ℕ) → walk-entry-lts.Need-pass-by-requires (
   pass-by-reads.Asked,
   pass-by-reads.Learnt,
   probe-entry-reads.Asked,
   probe-entry-reads.Learnt,
+  match-at-reads.Asked,
+  match-at-reads.Learnt,
   walk-entry-below t,
   walk-entry.Post,
   walk-directory-below t,
@@ -78,12 +93,13 @@ walk-entry-pass-by-requires : (t : ℕ) → walk-entry-lts.Need-pass-by-requires
 ) (walk-entry-at t) walk-entry.Post
 walk-entry-pass-by-requires t c κs = search needs
 
--- src/lib.rt:135:26
 walk-entry-sub-seen : (t : ℕ) → walk-entry-lts.Need-sub-seen (
   pass-by-reads.Asked,
   pass-by-reads.Learnt,
   probe-entry-reads.Asked,
   probe-entry-reads.Learnt,
+  match-at-reads.Asked,
+  match-at-reads.Learnt,
   walk-entry-below t,
   walk-entry.Post,
   walk-directory-below t,
@@ -91,12 +107,13 @@ walk-entry-sub-seen : (t : ℕ) → walk-entry-lts.Need-sub-seen (
 ) (walk-entry-at t) walk-entry.Post
 walk-entry-sub-seen t c = search needs
 
--- src/lib.rt:135:16
 walk-entry-add-seen : (t : ℕ) → walk-entry-lts.Need-add-seen (
   pass-by-reads.Asked,
   pass-by-reads.Learnt,
   probe-entry-reads.Asked,
   probe-entry-reads.Learnt,
+  match-at-reads.Asked,
+  match-at-reads.Learnt,
   walk-entry-below t,
   walk-entry.Post,
   walk-directory-below t,
@@ -104,12 +121,13 @@ walk-entry-add-seen : (t : ℕ) → walk-entry-lts.Need-add-seen (
 ) (walk-entry-at t) walk-entry.Post
 walk-entry-add-seen t c = search needs
 
--- src/lib.rt:137:9
 walk-entry-returns : (t : ℕ) → walk-entry-lts.Need-returns (
   pass-by-reads.Asked,
   pass-by-reads.Learnt,
   probe-entry-reads.Asked,
   probe-entry-reads.Learnt,
+  match-at-reads.Asked,
+  match-at-reads.Learnt,
   walk-entry-below t,
   walk-entry.Post,
   walk-directory-below t,
@@ -121,25 +139,13 @@ walk-entry-returns t c =
     let r = pb .result in
     (walk-none (a .depth) (a .by .rules) (now (a .image)) (a .d) (a .by .class) (a .by .sub) r (a .d .total - r) (a .tested + (a .left - r)) (c .if1 .taken)) ∙ pb .ensures .1
 
--- src/lib.rt:139:13
-walk-entry-sub-i : (t : ℕ) → walk-entry-lts.Need-sub-i (
-  pass-by-reads.Asked,
-  pass-by-reads.Learnt,
-  probe-entry-reads.Asked,
-  probe-entry-reads.Learnt,
-  walk-entry-below t,
-  walk-entry.Post,
-  walk-directory-below t,
-  walk-directory.Post,
-) (walk-entry-at t) walk-entry.Post
-walk-entry-sub-i t c = search needs
-
--- src/lib.rt:140:11
 walk-entry-probe-entry-requires : (t : ℕ) → walk-entry-lts.Need-probe-entry-requires (
   pass-by-reads.Asked,
   pass-by-reads.Learnt,
   probe-entry-reads.Asked,
   probe-entry-reads.Learnt,
+  match-at-reads.Asked,
+  match-at-reads.Learnt,
   walk-entry-below t,
   walk-entry.Post,
   walk-directory-below t,
@@ -147,12 +153,13 @@ walk-entry-probe-entry-requires : (t : ℕ) → walk-entry-lts.Need-probe-entry-
 ) (walk-entry-at t) walk-entry.Post
 walk-entry-probe-entry-requires t c κs = search needs
 
--- src/lib.rt:142:17
 walk-entry-enum-told : (t : ℕ) → walk-entry-lts.Need-enum-told (
   pass-by-reads.Asked,
   pass-by-reads.Learnt,
   probe-entry-reads.Asked,
   probe-entry-reads.Learnt,
+  match-at-reads.Asked,
+  match-at-reads.Learnt,
   walk-entry-below t,
   walk-entry.Post,
   walk-directory-below t,
@@ -160,25 +167,41 @@ walk-entry-enum-told : (t : ℕ) → walk-entry-lts.Need-enum-told (
 ) (walk-entry-at t) walk-entry.Post
 walk-entry-enum-told t c = search needs
 
--- src/lib.rt:147:25
-walk-entry-add-t20 : (t : ℕ) → walk-entry-lts.Need-add-t20 (
+walk-entry-add-match-at : (t : ℕ) → walk-entry-lts.Need-add-match-at (
   pass-by-reads.Asked,
   pass-by-reads.Learnt,
   probe-entry-reads.Asked,
   probe-entry-reads.Learnt,
+  match-at-reads.Asked,
+  match-at-reads.Learnt,
   walk-entry-below t,
   walk-entry.Post,
   walk-directory-below t,
   walk-directory.Post,
 ) (walk-entry-at t) walk-entry.Post
-walk-entry-add-t20 t c = search needs
+walk-entry-add-match-at t c = search needs
 
--- src/lib.rt:150:56
+walk-entry-match-at-requires : (t : ℕ) → walk-entry-lts.Need-match-at-requires (
+  pass-by-reads.Asked,
+  pass-by-reads.Learnt,
+  probe-entry-reads.Asked,
+  probe-entry-reads.Learnt,
+  match-at-reads.Asked,
+  match-at-reads.Learnt,
+  walk-entry-below t,
+  walk-entry.Post,
+  walk-directory-below t,
+  walk-directory.Post,
+) (walk-entry-at t) walk-entry.Post
+walk-entry-match-at-requires t c κs = search needs
+
 walk-entry-enum-told-2 : (t : ℕ) → walk-entry-lts.Need-enum-told-2 (
   pass-by-reads.Asked,
   pass-by-reads.Learnt,
   probe-entry-reads.Asked,
   probe-entry-reads.Learnt,
+  match-at-reads.Asked,
+  match-at-reads.Learnt,
   walk-entry-below t,
   walk-entry.Post,
   walk-directory-below t,
@@ -186,12 +209,13 @@ walk-entry-enum-told-2 : (t : ℕ) → walk-entry-lts.Need-enum-told-2 (
 ) (walk-entry-at t) walk-entry.Post
 walk-entry-enum-told-2 t c = search needs
 
--- src/lib.rt:150:56
 walk-entry-sub-walk-entry : (t : ℕ) → walk-entry-lts.Need-sub-walk-entry (
   pass-by-reads.Asked,
   pass-by-reads.Learnt,
   probe-entry-reads.Asked,
   probe-entry-reads.Learnt,
+  match-at-reads.Asked,
+  match-at-reads.Learnt,
   walk-entry-below t,
   walk-entry.Post,
   walk-directory-below t,
@@ -199,12 +223,13 @@ walk-entry-sub-walk-entry : (t : ℕ) → walk-entry-lts.Need-sub-walk-entry (
 ) (walk-entry-at t) walk-entry.Post
 walk-entry-sub-walk-entry t c = search needs
 
--- src/lib.rt:150:66
 walk-entry-add-walk-entry : (t : ℕ) → walk-entry-lts.Need-add-walk-entry (
   pass-by-reads.Asked,
   pass-by-reads.Learnt,
   probe-entry-reads.Asked,
   probe-entry-reads.Learnt,
+  match-at-reads.Asked,
+  match-at-reads.Learnt,
   walk-entry-below t,
   walk-entry.Post,
   walk-directory-below t,
@@ -212,12 +237,13 @@ walk-entry-add-walk-entry : (t : ℕ) → walk-entry-lts.Need-add-walk-entry (
 ) (walk-entry-at t) walk-entry.Post
 walk-entry-add-walk-entry t c = search needs
 
--- src/lib.rt:150:24
 walk-entry-walk-entry-requires : (t : ℕ) → walk-entry-lts.Need-walk-entry-requires (
   pass-by-reads.Asked,
   pass-by-reads.Learnt,
   probe-entry-reads.Asked,
   probe-entry-reads.Learnt,
+  match-at-reads.Asked,
+  match-at-reads.Learnt,
   walk-entry-below t,
   walk-entry.Post,
   walk-directory-below t,
@@ -225,12 +251,13 @@ walk-entry-walk-entry-requires : (t : ℕ) → walk-entry-lts.Need-walk-entry-re
 ) (walk-entry-at t) walk-entry.Post
 walk-entry-walk-entry-requires t c κs = search needs
 
--- src/lib.rt:151:22
 walk-entry-enum-known-n : (t : ℕ) → walk-entry-lts.Need-enum-known-n (
   pass-by-reads.Asked,
   pass-by-reads.Learnt,
   probe-entry-reads.Asked,
   probe-entry-reads.Learnt,
+  match-at-reads.Asked,
+  match-at-reads.Learnt,
   walk-entry-below t,
   walk-entry.Post,
   walk-directory-below t,
@@ -238,31 +265,33 @@ walk-entry-enum-known-n : (t : ℕ) → walk-entry-lts.Need-enum-known-n (
 ) (walk-entry-at t) walk-entry.Post
 walk-entry-enum-known-n t c = search needs
 
--- src/lib.rt:151:63
 walk-entry-sub-walk-directory : (t : ℕ) → walk-entry-lts.Need-sub-walk-directory (
   pass-by-reads.Asked,
   pass-by-reads.Learnt,
   probe-entry-reads.Asked,
   probe-entry-reads.Learnt,
+  match-at-reads.Asked,
+  match-at-reads.Learnt,
   walk-entry-below t,
   walk-entry.Post,
   walk-directory-below t,
   walk-directory.Post,
 ) (walk-entry-at t) walk-entry.Post
 walk-entry-sub-walk-directory t c =
-    let a = c .before .before .before .before .before .before .before .before .args in
-    let pb = c .before .before .before .before .before .before .pass-by in
+    let a = c .before .before .before .before .before .before .before .args in
+    let pb = c .before .before .before .before .before .pass-by in
     let r = pb .result in
     let n = c .before .n .given in
     let q = sym (n .1) ∙ c .before .before .before .probe-entry .ensures in
     omega (arith, enter-facts (a .depth) (a .by .rules) (now (a .image)) (a .d) (a .by .class) (a .by .sub) r (a .tested + (a .left - r)) (omega arith) (omega arith) (n .0 .0) q .0)
 
--- src/lib.rt:151:74
 walk-entry-add-walk-directory : (t : ℕ) → walk-entry-lts.Need-add-walk-directory (
   pass-by-reads.Asked,
   pass-by-reads.Learnt,
   probe-entry-reads.Asked,
   probe-entry-reads.Learnt,
+  match-at-reads.Asked,
+  match-at-reads.Learnt,
   walk-entry-below t,
   walk-entry.Post,
   walk-directory-below t,
@@ -270,32 +299,34 @@ walk-entry-add-walk-directory : (t : ℕ) → walk-entry-lts.Need-add-walk-direc
 ) (walk-entry-at t) walk-entry.Post
 walk-entry-add-walk-directory t c = search needs
 
--- src/lib.rt:151:34
 walk-entry-walk-directory-requires : (t : ℕ) → walk-entry-lts.Need-walk-directory-requires (
   pass-by-reads.Asked,
   pass-by-reads.Learnt,
   probe-entry-reads.Asked,
   probe-entry-reads.Learnt,
+  match-at-reads.Asked,
+  match-at-reads.Learnt,
   walk-entry-below t,
   walk-entry.Post,
   walk-directory-below t,
   walk-directory.Post,
 ) (walk-entry-at t) walk-entry.Post
 walk-entry-walk-directory-requires t c κs =
-    let a = c .before .before .before .before .before .before .before .before .args in
-    let pb = c .before .before .before .before .before .before .pass-by in
+    let a = c .before .before .before .before .before .before .before .args in
+    let pb = c .before .before .before .before .before .pass-by in
     let r = pb .result in
     let n = c .before .n .given in
     let q = sym (n .1) ∙ c .before .before .before .probe-entry .ensures in
     let f = enter-facts (a .depth) (a .by .rules) (now (a .image)) (a .d) (a .by .class) (a .by .sub) r (a .tested + (a .left - r)) (omega arith) (omega arith) (n .0 .0) q in
     omega (arith, f .0, f .1)
 
--- src/lib.rt:152:27
 walk-entry-enum-known-f : (t : ℕ) → walk-entry-lts.Need-enum-known-f (
   pass-by-reads.Asked,
   pass-by-reads.Learnt,
   probe-entry-reads.Asked,
   probe-entry-reads.Learnt,
+  match-at-reads.Asked,
+  match-at-reads.Learnt,
   walk-entry-below t,
   walk-entry.Post,
   walk-directory-below t,
@@ -303,12 +334,13 @@ walk-entry-enum-known-f : (t : ℕ) → walk-entry-lts.Need-enum-known-f (
 ) (walk-entry-at t) walk-entry.Post
 walk-entry-enum-known-f t c = search needs
 
--- src/lib.rt:153:28
 walk-entry-enum-known-t : (t : ℕ) → walk-entry-lts.Need-enum-known-t (
   pass-by-reads.Asked,
   pass-by-reads.Learnt,
   probe-entry-reads.Asked,
   probe-entry-reads.Learnt,
+  match-at-reads.Asked,
+  match-at-reads.Learnt,
   walk-entry-below t,
   walk-entry.Post,
   walk-directory-below t,
@@ -316,12 +348,13 @@ walk-entry-enum-known-t : (t : ℕ) → walk-entry-lts.Need-enum-known-t (
 ) (walk-entry-at t) walk-entry.Post
 walk-entry-enum-known-t t c = search needs
 
--- src/lib.rt:153:66
 walk-entry-sub-walk-entry-2 : (t : ℕ) → walk-entry-lts.Need-sub-walk-entry-2 (
   pass-by-reads.Asked,
   pass-by-reads.Learnt,
   probe-entry-reads.Asked,
   probe-entry-reads.Learnt,
+  match-at-reads.Asked,
+  match-at-reads.Learnt,
   walk-entry-below t,
   walk-entry.Post,
   walk-directory-below t,
@@ -329,33 +362,35 @@ walk-entry-sub-walk-entry-2 : (t : ℕ) → walk-entry-lts.Need-sub-walk-entry-2
 ) (walk-entry-at t) walk-entry.Post
 walk-entry-sub-walk-entry-2 t c = search needs
 
--- src/lib.rt:153:34
 walk-entry-walk-entry-requires-2 : (t : ℕ) → walk-entry-lts.Need-walk-entry-requires-2 (
   pass-by-reads.Asked,
   pass-by-reads.Learnt,
   probe-entry-reads.Asked,
   probe-entry-reads.Learnt,
+  match-at-reads.Asked,
+  match-at-reads.Learnt,
   walk-entry-below t,
   walk-entry.Post,
   walk-directory-below t,
   walk-directory.Post,
 ) (walk-entry-at t) walk-entry.Post
 walk-entry-walk-entry-requires-2 t c κs =
-    let a = c .before .before .before .before .before .before .before .before .before .before .before .before .args in
-    let pb = c .before .before .before .before .before .before .before .before .before .before .pass-by in
+    let a = c .before .before .before .before .before .before .before .before .before .before .before .args in
+    let pb = c .before .before .before .before .before .before .before .before .before .pass-by in
     let r = pb .result in
     let n = c .before .before .before .before .before .n .given in
     let q = sym (n .1) ∙ c .before .before .before .before .before .before .before .probe-entry .ensures in
-    let f = enter-facts (a .depth) (a .by .rules) (now (a .image)) (a .d) (a .by .class) (a .by .sub) r (a .tested + (a .left - r)) (omega arith) (omega (arith, pb .ensures .0, c .before .before .before .before .before .before .before .before .before .before .before .before .pre)) (n .0 .0) q in
+    let f = enter-facts (a .depth) (a .by .rules) (now (a .image)) (a .d) (a .by .class) (a .by .sub) r (a .tested + (a .left - r)) (omega arith) (omega (arith, pb .ensures .0, c .before .before .before .before .before .before .before .before .before .before .before .pre)) (n .0 .0) q in
     let u = c .before .t .given in
-    omega (arith, f .0, f .1, enter-count (a .depth) (a .by .rules) (now (a .image)) (a .d) (a .by .class) (a .by .sub) r (a .tested + (a .left - r)) (omega arith) (omega (arith, pb .ensures .0, c .before .before .before .before .before .before .before .before .before .before .before .before .pre)) (n .0 .0) q (u .0 .0) (ap toldImageMatch (sym (u .1)) ∙ c .before .before .before .walk-directory .ensures) (omega (arith, pb .ensures .0, c .before .before .before .before .before .before .before .before .before .before .before .before .pre)), pb .ensures .0, c .before .before .before .before .before .before .before .before .before .before .before .before .pre)
+    omega (arith, f .0, f .1, enter-count (a .depth) (a .by .rules) (now (a .image)) (a .d) (a .by .class) (a .by .sub) r (a .tested + (a .left - r)) (omega arith) (omega (arith, pb .ensures .0, c .before .before .before .before .before .before .before .before .before .before .before .pre)) (n .0 .0) q (u .0 .0) (ap toldImageMatch (sym (u .1)) ∙ c .before .before .before .walk-directory .ensures) (omega (arith, pb .ensures .0, c .before .before .before .before .before .before .before .before .before .before .before .pre)), pb .ensures .0, c .before .before .before .before .before .before .before .before .before .before .before .pre)
 
--- src/lib.rt:154:29
 walk-entry-enum-known-why : (t : ℕ) → walk-entry-lts.Need-enum-known-why (
   pass-by-reads.Asked,
   pass-by-reads.Learnt,
   probe-entry-reads.Asked,
   probe-entry-reads.Learnt,
+  match-at-reads.Asked,
+  match-at-reads.Learnt,
   walk-entry-below t,
   walk-entry.Post,
   walk-directory-below t,
@@ -363,12 +398,13 @@ walk-entry-enum-known-why : (t : ℕ) → walk-entry-lts.Need-enum-known-why (
 ) (walk-entry-at t) walk-entry.Post
 walk-entry-enum-known-why t c = search needs
 
--- src/lib.rt:156:24
 walk-entry-enum-known-why-2 : (t : ℕ) → walk-entry-lts.Need-enum-known-why-2 (
   pass-by-reads.Asked,
   pass-by-reads.Learnt,
   probe-entry-reads.Asked,
   probe-entry-reads.Learnt,
+  match-at-reads.Asked,
+  match-at-reads.Learnt,
   walk-entry-below t,
   walk-entry.Post,
   walk-directory-below t,
@@ -376,114 +412,120 @@ walk-entry-enum-known-why-2 : (t : ℕ) → walk-entry-lts.Need-enum-known-why-2
 ) (walk-entry-at t) walk-entry.Post
 walk-entry-enum-known-why-2 t c = search needs
 
--- src/lib.rt:130:1
 walk-entry-returns-2 : (t : ℕ) → walk-entry-lts.Need-returns-2 (
   pass-by-reads.Asked,
   pass-by-reads.Learnt,
   probe-entry-reads.Asked,
   probe-entry-reads.Learnt,
+  match-at-reads.Asked,
+  match-at-reads.Learnt,
   walk-entry-below t,
   walk-entry.Post,
   walk-directory-below t,
   walk-directory.Post,
 ) (walk-entry-at t) walk-entry.Post
 walk-entry-returns-2 t c =
-    let a = c .before .before .before .before .before .before .before .before .args in
-    let pb = c .before .before .before .before .before .before .pass-by in
+    let a = c .before .before .before .before .before .before .before .args in
+    let pb = c .before .before .before .before .before .pass-by in
     let r = pb .result in
-    (by-match (a .depth) (a .by .rules) (now (a .image)) (a .d) (a .by .class) (a .by .sub) r (a .tested + (a .left - r)) (omega arith) (omega arith) (sym (c .before .enum-told .given .1) ∙ c .before .before .before .probe-entry .ensures)) ∙ pb .ensures .1
+    ap given (c .match-at .ensures) ∙ (by-match (a .depth) (a .by .rules) (now (a .image)) (a .d) (a .by .class) (a .by .sub) r (a .tested + (a .left - r)) (omega arith) (omega arith) (sym (c .before .enum-told .given .1) ∙ c .before .before .before .probe-entry .ensures)) ∙ pb .ensures .1
 
--- src/lib.rt:130:1
 walk-entry-returns-3 : (t : ℕ) → walk-entry-lts.Need-returns-3 (
   pass-by-reads.Asked,
   pass-by-reads.Learnt,
   probe-entry-reads.Asked,
   probe-entry-reads.Learnt,
+  match-at-reads.Asked,
+  match-at-reads.Learnt,
   walk-entry-below t,
   walk-entry.Post,
   walk-directory-below t,
   walk-directory.Post,
 ) (walk-entry-at t) walk-entry.Post
 walk-entry-returns-3 t c =
-    let a = c .before .before .before .before .before .before .before .before .args in
-    let pb = c .before .before .before .before .before .before .pass-by in
+    let a = c .before .before .before .before .before .before .before .args in
+    let pb = c .before .before .before .before .before .pass-by in
     let r = pb .result in
     (c .walk-entry .ensures ∙ by-pass (a .depth) (a .by .rules) (now (a .image)) (a .d) (a .by .class) (a .by .sub) r (a .tested + (a .left - r)) (omega arith) (omega arith) (sym (c .before .enum-told2 .given .1) ∙ c .before .before .before .probe-entry .ensures)) ∙ pb .ensures .1
 
--- src/lib.rt:130:1
 walk-entry-returns-4 : (t : ℕ) → walk-entry-lts.Need-returns-4 (
   pass-by-reads.Asked,
   pass-by-reads.Learnt,
   probe-entry-reads.Asked,
   probe-entry-reads.Learnt,
+  match-at-reads.Asked,
+  match-at-reads.Learnt,
   walk-entry-below t,
   walk-entry.Post,
   walk-directory-below t,
   walk-directory.Post,
 ) (walk-entry-at t) walk-entry.Post
 walk-entry-returns-4 t c =
-    let a = c .before .before .before .before .before .before .before .before .before .before .before .before .args in
-    let pb = c .before .before .before .before .before .before .before .before .before .before .pass-by in
+    let a = c .before .before .before .before .before .before .before .before .before .before .before .args in
+    let pb = c .before .before .before .before .before .before .before .before .before .pass-by in
     let r = pb .result in
     let n = c .before .before .before .before .before .n .given in
     let q = sym (n .1) ∙ c .before .before .before .before .before .before .before .probe-entry .ensures in
     let f = c .before .f .given in
-    (enter-given (a .depth) (a .by .rules) (now (a .image)) (a .d) (a .by .class) (a .by .sub) r (a .tested + (a .left - r)) (omega (arith, c .before .before .before .before .before .before .before .before .before .if1 .left)) (omega (arith, c .before .before .before .before .before .before .before .before .before .before .before .before .pre)) (n .0 .0) q (f .0 .0) (ap toldImageMatch (sym (f .1)) ∙ c .before .before .before .walk-directory .ensures)) ∙ pb .ensures .1
+    (enter-given (a .depth) (a .by .rules) (now (a .image)) (a .d) (a .by .class) (a .by .sub) r (a .tested + (a .left - r)) (omega (arith, c .before .before .before .before .before .before .before .before .if1 .left)) (omega (arith, c .before .before .before .before .before .before .before .before .before .before .before .pre)) (n .0 .0) q (f .0 .0) (ap toldImageMatch (sym (f .1)) ∙ c .before .before .before .walk-directory .ensures)) ∙ pb .ensures .1
 
--- src/lib.rt:130:1
 walk-entry-returns-5 : (t : ℕ) → walk-entry-lts.Need-returns-5 (
   pass-by-reads.Asked,
   pass-by-reads.Learnt,
   probe-entry-reads.Asked,
   probe-entry-reads.Learnt,
+  match-at-reads.Asked,
+  match-at-reads.Learnt,
   walk-entry-below t,
   walk-entry.Post,
   walk-directory-below t,
   walk-directory.Post,
 ) (walk-entry-at t) walk-entry.Post
 walk-entry-returns-5 t c =
-    let a = c .before .before .before .before .before .before .before .before .before .before .before .before .before .args in
-    let pb = c .before .before .before .before .before .before .before .before .before .before .before .pass-by in
+    let a = c .before .before .before .before .before .before .before .before .before .before .before .before .args in
+    let pb = c .before .before .before .before .before .before .before .before .before .before .pass-by in
     let r = pb .result in
     let n = c .before .before .before .before .before .before .n .given in
     let q = sym (n .1) ∙ c .before .before .before .before .before .before .before .before .probe-entry .ensures in
     let u = c .before .before .t .given in
-    (c .walk-entry2 .ensures ∙ enter-absent (a .depth) (a .by .rules) (now (a .image)) (a .d) (a .by .class) (a .by .sub) r (a .tested + (a .left - r)) (omega (arith, c .before .before .before .before .before .before .before .before .before .before .if1 .left)) (omega (arith, c .before .before .before .before .before .before .before .before .before .before .before .before .before .pre)) (n .0 .0) q (u .0 .0) (ap toldImageMatch (sym (u .1)) ∙ c .before .before .before .before .walk-directory .ensures)) ∙ pb .ensures .1
+    (c .walk-entry2 .ensures ∙ enter-absent (a .depth) (a .by .rules) (now (a .image)) (a .d) (a .by .class) (a .by .sub) r (a .tested + (a .left - r)) (omega (arith, c .before .before .before .before .before .before .before .before .before .if1 .left)) (omega (arith, c .before .before .before .before .before .before .before .before .before .before .before .before .pre)) (n .0 .0) q (u .0 .0) (ap toldImageMatch (sym (u .1)) ∙ c .before .before .before .before .walk-directory .ensures)) ∙ pb .ensures .1
 
--- src/lib.rt:130:1
 walk-entry-returns-6 : (t : ℕ) → walk-entry-lts.Need-returns-6 (
   pass-by-reads.Asked,
   pass-by-reads.Learnt,
   probe-entry-reads.Asked,
   probe-entry-reads.Learnt,
+  match-at-reads.Asked,
+  match-at-reads.Learnt,
   walk-entry-below t,
   walk-entry.Post,
   walk-directory-below t,
   walk-directory.Post,
 ) (walk-entry-at t) walk-entry.Post
 walk-entry-returns-6 t c =
-    let a = c .before .before .before .before .before .before .before .before .before .before .before .before .args in
-    let pb = c .before .before .before .before .before .before .before .before .before .before .pass-by in
+    let a = c .before .before .before .before .before .before .before .before .before .before .before .args in
+    let pb = c .before .before .before .before .before .before .before .before .before .pass-by in
     let r = pb .result in
     let n = c .before .before .before .before .before .n .given in
     let q = sym (n .1) ∙ c .before .before .before .before .before .before .before .probe-entry .ensures in
     let w = c .before .why .given in
-    (enter-refused (a .depth) (a .by .rules) (now (a .image)) (a .d) (a .by .class) (a .by .sub) r (a .tested + (a .left - r)) (omega arith) (omega (arith, pb .ensures .0, c .before .before .before .before .before .before .before .before .before .before .before .before .pre)) (n .0 .0) q (w .0 .0 .number) (ap toldImageMatch (sym (w .1)) ∙ c .before .before .before .walk-directory .ensures)) ∙ pb .ensures .1
+    (enter-refused (a .depth) (a .by .rules) (now (a .image)) (a .d) (a .by .class) (a .by .sub) r (a .tested + (a .left - r)) (omega arith) (omega (arith, pb .ensures .0, c .before .before .before .before .before .before .before .before .before .before .before .pre)) (n .0 .0) q (w .0 .0 .number) (ap toldImageMatch (sym (w .1)) ∙ c .before .before .before .walk-directory .ensures)) ∙ pb .ensures .1
 
--- src/lib.rt:130:1
 walk-entry-returns-7 : (t : ℕ) → walk-entry-lts.Need-returns-7 (
   pass-by-reads.Asked,
   pass-by-reads.Learnt,
   probe-entry-reads.Asked,
   probe-entry-reads.Learnt,
+  match-at-reads.Asked,
+  match-at-reads.Learnt,
   walk-entry-below t,
   walk-entry.Post,
   walk-directory-below t,
   walk-directory.Post,
 ) (walk-entry-at t) walk-entry.Post
 walk-entry-returns-7 t c =
-    let a = c .before .before .before .before .before .before .before .before .args in
-    let pb = c .before .before .before .before .before .before .pass-by in
+    let a = c .before .before .before .before .before .before .before .args in
+    let pb = c .before .before .before .before .before .pass-by in
     let r = pb .result in
     let w = c .before .why2 .given in
     (by-fault (a .depth) (a .by .rules) (now (a .image)) (a .d) (a .by .class) (a .by .sub) r (a .tested + (a .left - r)) (omega arith) (omega arith) (w .0 .0) (sym (w .1) ∙ c .before .before .before .probe-entry .ensures)) ∙ pb .ensures .1
@@ -491,11 +533,14 @@ walk-entry-returns-7 t c =
 pub +walk-directory+walk-entry-spec : {M : Type 1} → statement M
 +walk-directory+walk-entry-spec =
     close μ-walk-directory μ-walk-entry (λ t. walk-directory-lts.spec (
+      total-reads.Asked,
+      total-reads.Learnt,
       walk-entry-below t,
       walk-entry.Post,
     )
     (walk-directory-at t)
     walk-directory.Post
+    (walk-directory-total-requires t)
     (walk-directory-walk-entry-requires t)
     (walk-directory-returns t))
     λ t. walk-entry-lts.spec (
@@ -503,6 +548,8 @@ pub +walk-directory+walk-entry-spec : {M : Type 1} → statement M
       pass-by-reads.Learnt,
       probe-entry-reads.Asked,
       probe-entry-reads.Learnt,
+      match-at-reads.Asked,
+      match-at-reads.Learnt,
       walk-entry-below t,
       walk-entry.Post,
       walk-directory-below t,
@@ -514,10 +561,10 @@ pub +walk-directory+walk-entry-spec : {M : Type 1} → statement M
     (walk-entry-sub-seen t)
     (walk-entry-add-seen t)
     (walk-entry-returns t)
-    (walk-entry-sub-i t)
     (walk-entry-probe-entry-requires t)
     (walk-entry-enum-told t)
-    (walk-entry-add-t20 t)
+    (walk-entry-add-match-at t)
+    (walk-entry-match-at-requires t)
     (walk-entry-enum-told-2 t)
     (walk-entry-sub-walk-entry t)
     (walk-entry-add-walk-entry t)

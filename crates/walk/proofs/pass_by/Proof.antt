@@ -23,9 +23,6 @@ loop-holds c =
     let e : a .tested + (a .left - a .left) ≡ a .tested = omega arith in
     (omega arith, ap (firstIn (a .by .rules .kind) (now (a .image)) (a .by .class) (a .by .sub) (walkFrom (a .depth) (a .by .rules) (now (a .image)) (a .d) (a .left) (a .d .total - a .left))) e)
 
-sub-passes : tie.Need-sub-passes Inv-loop μ-loop
-sub-passes c = search needs
-
 passes-requires : tie.Need-passes-requires Inv-loop μ-loop
 passes-requires c κs = search needs
 
@@ -37,7 +34,7 @@ loop-less c = search needs
 
 loop-again : tie.Need-loop-again Inv-loop μ-loop
 loop-again c =
-    let l = c .before .before .before .before in
+    let l = c .before .before .before in
     let a = l .before .before .args in
     let r = l .loop .rest in
     let e : a .tested + (a .left - (r - 1)) ≡ a .tested + (a .left - r) + 1 = omega arith in (
@@ -48,10 +45,10 @@ loop-again c =
     )
 
 returns : tie.Need-returns Inv-loop μ-loop
-returns c = c .before .before .before .before .loop .inv
+returns c = c .before .before .before .loop .inv
 
 returns-2 : tie.Need-returns-2 Inv-loop μ-loop
 returns-2 c = c .before .loop .inv
 
 pub pass-by-spec : {M : Type 1} → statement M
-pass-by-spec = tie.close (tie.spec Inv-loop μ-loop loop-holds sub-passes passes-requires sub-rest loop-less loop-again returns returns-2)
+pass-by-spec = tie.close (tie.spec Inv-loop μ-loop loop-holds passes-requires sub-rest loop-less loop-again returns returns-2)
