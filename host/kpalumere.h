@@ -126,6 +126,14 @@ uint64_t kpalumere_find_image(const uint8_t *image, size_t image_len, uint8_t ty
  */
 uint64_t kpalumere_version(const uint8_t *bytes, size_t bytes_len, uint64_t *words, size_t words_len);
 
+/* The same of the firmware binary that the bytes of an entry of the directory of a level are.
+ *
+ * Answers 0 and words[0] = the version; where the entry has no bytes the number of kpalumere_part, which comes first; then 1
+ * where the bytes are fewer than 256, and 2 where they lack the mark; 12 where words_len is 0.
+ */
+uint64_t kpalumere_entry_version(const uint8_t *image, size_t image_len, uint32_t level, uint64_t index, uint64_t *words,
+                                 size_t words_len);
+
 /* ---- Views ----
  *
  * A view of a checked directory is the image and the place where the directory begins. The directory is checked again at each
@@ -154,6 +162,14 @@ uint64_t kpalumere_view_entry(const uint8_t *image, size_t image_len, size_t pla
  */
 uint64_t kpalumere_view_part(const uint8_t *image, size_t image_len, size_t place, size_t index, uint64_t *words,
                              size_t words_len);
+
+/* The version of the firmware binary that the bytes of an entry are, from a view that holds the image and the place.
+ *
+ * Answers 0 and words[0] = the version; where the entry has no bytes the number of kpalumere_view_part, which comes first; then
+ * 1 where the bytes are fewer than 256, and 2 where they lack the mark; 12 where words_len is 0.
+ */
+uint64_t kpalumere_view_version(const uint8_t *image, size_t image_len, size_t place, size_t index, uint64_t *words,
+                                size_t words_len);
 
 /* ---- Writing a directory ----
  *

@@ -3,6 +3,7 @@
 
 #include <inttypes.h>
 #include <stdio.h>
+#include <stdlib.h>
 #include <string.h>
 
 static int failures = 0;
@@ -154,6 +155,41 @@ static void check_version(void)
     expect("the source's example", 0x00080174, words[0]);
     expect("a header cut off is refused", 1, kpalumere_version(binary, 255, words, 1));
     expect("no room is refused", 12, kpalumere_version(binary, sizeof binary, words, 0));
+}
+
+/* The version of the board's one entry, whose bytes lie at 0x1000 and get the mark and a version here. */
+static void check_entry_version(void)
+{
+    static const uint8_t version[4] = {0x74, 0x01, 0x08, 0x00};
+    size_t length;
+    const uint8_t *good = board(&length);
+    uint8_t *image = malloc(length);
+    uint64_t words[2] = {7, 8};
+
+    if (image == NULL) {
+        expect("there is memory for an image", 0, 1);
+        return;
+    }
+    memcpy(image, good, length);
+    memset(image + 0x1000, 0, 0x100);
+    expect("bytes without the mark have no version", 2, kpalumere_entry_version(image, length, 1, 0, words, 2));
+    expect("nor by a view", 2, kpalumere_view_version(image, length, 0x200, 0, words, 2));
+    memcpy(image + 0x1010, "$PS1", 4);
+    memcpy(image + 0x1060, version, sizeof version);
+    expect("no entry has no version", 8, kpalumere_entry_version(image, length, 1, 1, words, 2));
+    expect("nor by a view", 8, kpalumere_view_version(image, length, 0x200, 1, words, 2));
+    expect("there is no level three", 9, kpalumere_entry_version(image, length, 3, 0, words, 2));
+    expect("a place is 64 bits wide", 7, kpalumere_view_version(image, length, SIZE_MAX, 0, words, 2));
+    expect("no room for the version", 12, kpalumere_entry_version(image, length, 1, 0, words, 0));
+    expect("nor by a view", 12, kpalumere_view_version(image, length, 0x200, 0, words, 0));
+    expect("the words are kept", 0, (uint64_t)(words[0] != 7 || words[1] != 8));
+    expect("an entry has a version", 0, kpalumere_entry_version(image, length, 1, 0, words, 2));
+    expect("that of its bytes", 0x00080174, words[0]);
+    words[0] = 7;
+    expect("it has by a view", 0, kpalumere_view_version(image, length, 0x200, 0, words, 2));
+    expect("the same", 0x00080174, words[0]);
+    expect("the word behind is kept", 8, words[1]);
+    free(image);
 }
 
 static void check_view(void)
@@ -381,6 +417,7 @@ int main(void)
     check_flash();
     check_repeated();
     check_version();
+    check_entry_version();
     check_view();
     check_build();
     check_build_repeated();

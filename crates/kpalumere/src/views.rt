@@ -1,10 +1,11 @@
 // Views of a flash image's directories. A view crosses the boundary as the lent image and a place.
 ghost use mathlib.Core.Path.{_≡_};
-ghost use Rattle.lent.specs.Lent.{numberLeft, wordsLeft};
+ghost use Rattle.lent.specs.Lent.{numberLeft, wordsLeft, layNumber};
 ghost use Rattle.efs.specs.Rules.{baseRules};
 ghost use Rattle.flash.specs.Flash.{flashDirectory};
 ghost use Rattle.place.specs.Place.{entryAt, partAt};
 ghost use Rattle.flash_words.specs.Images.{layEntry, layPart, layPlace};
+ghost use Rattle.version_words.specs.Versions.{versionIn};
 
 // One word: the place that a view of the directory of a level keeps.
 #[no_mangle]
@@ -41,4 +42,18 @@ pub extern "C" fn kpalumere_view_part(
     ensures { λ _. ⌜ now (words .exit) ≡ wordsLeft layPart (partAt baseRules (now (image .entry)) place i) (now (words .entry)) ⌝ }
 {
     view_words::part(image, place, i, words)
+}
+
+// One word: the version of the firmware binary that the bytes of entry i are, from a view that holds the image and the place.
+#[no_mangle]
+pub extern "C" fn kpalumere_view_version(
+    image: &[u8],
+    place: usize,
+    i: usize,
+    words: &mut [u64],
+) -> u64
+    ensures { λ r. ⌜ r ≡ numberLeft layNumber (versionIn (now (image .entry)) (partAt baseRules (now (image .entry)) place i)) (now (words .entry)) ⌝ }
+    ensures { λ _. ⌜ now (words .exit) ≡ wordsLeft layNumber (versionIn (now (image .entry)) (partAt baseRules (now (image .entry)) place i)) (now (words .entry)) ⌝ }
+{
+    version_words::view(image, place, i, words)
 }

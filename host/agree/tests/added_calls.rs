@@ -1,8 +1,8 @@
 //! The calls that stand beside document 01's and have no line in the ask language (the EFS, the directory pointer, the entries
-//! that repeat, a firmware binary's version and the entry at an index of a GUID table), set side by side: the library by its
-//! bindings, and the second program.
+//! that repeat, a firmware binary's version, that of an entry, and the entry at an index of a GUID table), set side by side: the
+//! library by its bindings, and the second program.
 
-use agree::board::{entry, Board, LEVEL_TWO};
+use agree::board::{entry, Board, LENGTH, LEVEL_ONE, LEVEL_TWO};
 use agree::cases;
 use agree::random::Random;
 use agree::subjects::directory::{tell_apart, Directory, Entry, CLASSES, LEAD, SUBPROGRAMS};
@@ -15,6 +15,8 @@ use std::time::{SystemTime, UNIX_EPOCH};
 const TRIALS: usize = 5_000;
 /// The most bytes that a flash image may have.
 const LONGEST: usize = 16_777_216;
+/// Where a board has a firmware binary: behind its directories.
+const BINARY: usize = 0x2_C000;
 /// Where an EFS may be.
 const CANDIDATES: [usize; 6] = [
     0xFA_0000, 0xF2_0000, 0xE2_0000, 0xC2_0000, 0x82_0000, 0x02_0000,
@@ -87,6 +89,29 @@ fn version_by_both(bytes: &[u8]) -> [Told; 2] {
     [
         by_library(bindings::version(bytes), |version| vec![version]),
         by_second(second::version::version(bytes), |version| {
+            vec![version.into()]
+        }),
+    ]
+}
+
+fn entry_version_by_both(image: &[u8], level: u32, index: u64) -> [Told; 2] {
+    [
+        by_library(
+            bindings::entry_version(image, level, index as usize),
+            |version| vec![version],
+        ),
+        by_second(second::version::of_entry(image, level, index), |version| {
+            vec![version.into()]
+        }),
+    ]
+}
+
+fn view_version_by_both(image: &[u8], place: u64, index: u64) -> [Told; 2] {
+    let view = second::flash::View { image, place };
+    let library = bindings::view_version(image, place as usize, index as usize);
+    [
+        by_library(library, |version| vec![version]),
+        by_second(second::version::of_view(&view, index), |version| {
             vec![version.into()]
         }),
     ]
@@ -221,6 +246,60 @@ fn both_tell_the_same_version() {
         seen.note(version_by_both(&bytes[..length]), &whence);
     }
     seen.hold(&[0, 1, 2]);
+}
+
+/// An entry whose bytes begin where a binary may, end about the end of its header, and may lie in no image at all.
+fn entry_with_a_binary(random: &mut Random) -> Entry {
+    let class = random.one_of(&CLASSES);
+    let size = random.one_of(&[0, 255, 256, 257, 0x1000]);
+    let mode = random.below(4);
+    let place = BINARY as u64;
+    let location = match mode {
+        _ if random.once_in(8) => LENGTH as u64,
+        0 => 0xFF00_0000 + place,
+        1 => place,
+        _ => place - random.one_of(&[LEVEL_ONE, LEVEL_TWO]) as u64,
+    };
+    entry(class, random.one_of(&SUBPROGRAMS), size, location, mode)
+}
+
+#[test]
+fn both_tell_the_same_version_of_an_entry() {
+    let seed = seed_for("the version of an entry");
+    let mut random = Random::from_seed(seed);
+    let (mut by_level, mut by_view) = (Seen::default(), Seen::default());
+    for trial in 0..TRIALS / 5 {
+        let mut board = Board::new();
+        for level in [1, 2] {
+            let total = random.below(4) as usize + 1;
+            let mut entries: Vec<Entry> = (0..total)
+                .map(|_| entry_with_a_binary(&mut random))
+                .collect();
+            if level == 1 {
+                entries.push(entry(LEAD, 2, 0, LEVEL_TWO as u64, 1));
+            }
+            tell_apart(&mut random, &mut entries);
+            *directory_of(&mut board, level) = Directory::of(level, entries);
+        }
+        let mut image = board.bytes();
+        let header = &mut image[BINARY..BINARY + 0x100];
+        if !random.once_in(4) {
+            header[0x10..0x14].copy_from_slice(b"$PS1");
+        }
+        header[0x60..0x64].copy_from_slice(&random.bytes(4));
+        for level in 0..4 {
+            for index in 0..6 {
+                let whence = format!("seed {seed}, trial {trial}, level {level}, index {index}");
+                by_level.note(entry_version_by_both(&image, level, index), &whence);
+                let place = random.one_of(&[LEVEL_ONE, LEVEL_TWO, LENGTH, LENGTH + 1]) as u64;
+                let place = place + random.one_of(&[0, 0, 0, 1, 1 << 32]);
+                let whence = format!("{whence}, place {place:#x}");
+                by_view.note(view_version_by_both(&image, place, index), &whence);
+            }
+        }
+    }
+    by_level.hold_at_least(&[0, 1, 2, 7, 8, 9, 14, 16, 17]);
+    by_view.hold_at_least(&[0, 1, 2, 7, 8, 14, 16, 17]);
 }
 
 // ---- the entry at an index of a GUID table

@@ -236,6 +236,9 @@ fn flash() -> Result<Vec<Depth>, String> {
         depth_of!(kpalumere_view_part(&[u8]: image, usize: place, usize: 511, &mut [u64]: words) answers 0, viewed),
         depth_of!(kpalumere_checksum(&[u8]: summed, &mut [u64]: words) answers 0, viewed),
         depth_of!(kpalumere_version(&[u8]: binary, &mut [u64]: words) answers 0, "a header"),
+        depth_of!(kpalumere_entry_version(&[u8]: image, u32: 2, u64: 511, &mut [u64]: words) answers Refusal::SIGNATURE, given),
+        depth_of!(kpalumere_view_version(&[u8]: image, usize: place, usize: 511, &mut [u64]: words)
+            answers Refusal::SIGNATURE, viewed),
         depth_of!(kpalumere_extend(&mut [u8]: buffer, u8: last.class, u8: last.subprogram, u32: last.size, u64: last.location,
             u32: last.mode, &mut [u64]: words) answers 0, "a directory of 511 entries"),
         depth_of!(kpalumere_start(&mut [u8]: buffer, u32: 1) answers 0, "a buffer"),

@@ -35,5 +35,5 @@ pub use guids::{
     guid_entry, guid_extend, guid_find, guid_start, guids, Guid, GuidEntry, GuidMatch, GuidTable,
 };
 pub use mailbox::{Firmware, Interrupt, Mailbox, Place, Post, Register};
-pub use version::version;
+pub use version::{entry_version, version, view_version};
 pub use view::{view, view_entry, view_part};

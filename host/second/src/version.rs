@@ -1,5 +1,6 @@
 //! Firmware binaries: the version in the header that one begins with, as source document 001 describes it.
 
+use crate::flash::{self, Part, View};
 use crate::little_endian::u32_at;
 use crate::refusal::{require, Refusal};
 
@@ -18,6 +19,21 @@ pub fn version(bytes: &[u8]) -> Result<u32, Refusal> {
     // its mark
     require(bytes[MARK_AT..].starts_with(MARK), 2)?;
     Ok(u32_at(bytes, VERSION_AT))
+}
+
+/// The version of the binary that the bytes of entry `index` of the directory of that level are.
+pub fn of_entry(image: &[u8], level: u32, index: u64) -> Result<u32, Refusal> {
+    version(part_of(image, flash::bytes(image, level, index)?))
+}
+
+/// The same of an entry that a view gives.
+pub fn of_view(view: &View, index: u64) -> Result<u32, Refusal> {
+    version(part_of(view.image, view.bytes(index)?))
+}
+
+fn part_of(image: &[u8], part: Part) -> &[u8] {
+    let from = part.place as usize;
+    &image[from..from + part.length as usize]
 }
 
 #[cfg(test)]
