@@ -101,6 +101,54 @@ put crates/kpalumere/must-fail/eight.edit 'old:     7' 'old:     9'
 expect 'an edit that does not is named before the proofs' stray_edit_is_named
 rm -r "$root/crates/kpalumere/must-fail" "$root/said"
 
+# What their logs say.
+edits_are_read() (
+    # shellcheck source=host/setup.sh
+    . "$own/setup.sh"
+    # shellcheck source=host/steps.sh
+    . "$own/steps.sh"
+    edits_show_facts
+)
+shape_alone_is_named() { ! edits_are_read >"$root/said" && grep -qF 'the edit kpalumere/eight is refused for its shape alone' "$root/said"; }
+no_log_is_told() { ! edits_are_read >"$root/said" && grep -qF 'no edit was tried' "$root/said"; }
+log=$root/target/must-fail/kpalumere/eight/.log
+rm -rf "$root/target/must-fail"
+expect 'that no edit was tried is told' no_log_is_told
+mkdir -p "${log%/*}"
+printf '%s\n' 'proofs/seven/Proof.antt:9:1: error: `add-t4`: module `Tie` has no `Need-add-t4` that can be named from here' \
+    'proofs/seven/Proof.antt:12:1: error: `seven-spec`: `add-t4` was not admitted' >"$log"
+expect 'an edit that is refused for its shape alone is named' shape_alone_is_named
+echo 'proofs/seven/Proof.antt:15:1: error: `returns`: the two types differ only where one has `7` and the other has `8`' >>"$log"
+expect 'one that is refused for a fact is taken' edits_are_read
+rm -r "$root/target/must-fail" "$root/said"
+
+# A directory whose fields any crate may fill.
+by_hand_is_tried() (
+    # shellcheck source=host/setup.sh
+    . "$own/setup.sh"
+    # shellcheck source=host/steps.sh
+    . "$own/steps.sh"
+    root=$root/filled
+    directory_by_hand_refused
+)
+open_field_is_named() { ! by_hand_is_tried >"$root/said" && grep -qF 'may fill the field total of a directory by hand' "$root/said"; }
+mkdir -p "$root/filled/crates/directory/src" "$root/filled/crates/window/src" "$root/filled/target/rlib" "$root/filled/target/stamp"
+printf '%s\n' 'window:' 'directory: window' >"$root/filled/crates.txt"
+echo 'pub struct Offset(pub u32);' >"$root/filled/crates/window/src/lib.rt"
+cat >"$root/filled/crates/directory/src/lib.rt" <<'END'
+use window::Offset;
+
+pub struct Directory {
+    place: Offset,
+    level: u32,
+    pub total: u32,
+}
+END
+expect 'a field of a directory that any crate may fill is named' open_field_is_named
+put filled/crates/directory/src/lib.rt 'pub total' 'total'
+expect 'fields that are all private are taken' by_hand_is_tried
+rm -r "$root/filled" "$root/said"
+
 # Each change below breaks steps of its own, so that several can be tried in one run.
 echo '// A file that no crate has.' >"$root/crates/lost.rt"
 put host/src/lib.rs 'seven, 7' 'seven, 8'

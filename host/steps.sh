@@ -92,6 +92,60 @@ edits_fit() {
     [ "$lost" -eq 0 ]
 }
 
+# Each must-fail edit was refused because a fact does not hold. One whose log has no other error than that the proof no longer fits the code,
+# or that a name is not there, says nothing of what the changed program does.
+edits_show_facts() {
+    local log edit tried=0 lost=0
+    for log in "$root"/target/must-fail/*/*/.log; do
+        [ -e "$log" ] || continue
+        tried=$((tried + 1))
+        edit=${log#"$root/target/must-fail/"}
+        edit=${edit%/.log}
+        if ! grep -aE ': error|does not close' "$log" | grep -avE 'was not admitted|can be named from here|has no field|is not in scope: add' | grep -q .; then
+            printf 'the edit %s is refused for its shape alone: %s has no error that is of a fact. Exchange an operand, and keep the operations.\n' "$edit" "${log#"$root/"}"
+            lost=1
+        fi
+    done
+    [ "$tried" -gt 0 ] || { echo 'no edit was tried: target/must-fail has no log'; return 1; }
+    [ "$lost" -eq 0 ] && echo "$tried edits were refused, each because a fact does not hold"
+}
+
+# A crate that fills the fields of a directory by hand is refused by the language, so that only a check gives one (F7).
+# No edit can show it, since an edit must reach the prover. The proved crates are lent by links, and are not proved again.
+directory_by_hand_refused() {
+    require_rt || return
+    local scratch said field
+    scratch=$(mktemp -d) || return
+    mkdir -p "$scratch/crates/by_hand/src" "$scratch/target/rlib"
+    ln -s "$root"/crates/* "$scratch/crates/"
+    ln -s "$root"/target/rlib/* "$scratch/target/rlib/"
+    cp -r "$root/target/stamp" "$scratch/target/"
+    { cat "$root/crates.txt"; echo 'by_hand: directory window'; } >"$scratch/crates.txt"
+    cat >"$scratch/crates/by_hand/src/lib.rt" <<'END'
+// A directory of thirteen entries that no check gave.
+use directory::Directory;
+use window::Offset;
+
+pub fn made_by_hand() -> Directory {
+    Directory {
+        place: Offset(0),
+        level: 1,
+        total: 13,
+    }
+}
+END
+    said=$(cd "$scratch" && rt check by_hand 2>&1)
+    rm -rf "$scratch"
+    for field in place level total; do
+        if ! grep -qF "field \`$field\` of struct \`Directory\` is private" <<<"$said"; then
+            printf '%s\n' "$said"
+            echo "a crate above may fill the field $field of a directory by hand: make it private in crates/directory/src/lib.rt"
+            return 1
+        fi
+    done
+    echo 'a directory made by hand is refused: its place, its level and its total are private'
+}
+
 prove_everything() {
     require_rt || return
     edits_fit || return
