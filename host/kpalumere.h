@@ -38,12 +38,17 @@ uint64_t kpalumere_checksum(const uint8_t *bytes, size_t bytes_len, uint64_t *wo
 
 /* ---- The flash image ----
  *
- * `image` is a whole flash image. `level` is 1 or 2, any other is refused with 9. Each of these calls answers 15 for an image
- * that is empty or has more than 16,777,216 bytes; 2 where it has no EFS; 7 where the EFS's pointer, or the entry that leads
- * to level two, leads out of it; 8 where there is no pointer or no such entry; 16 where that entry has address mode 3; and for
- * a directory that is not good 1 (cut off), 2 (cookie), 3 (total), 4 (checksum), 5 (reserved bits), 14 (type 0x40 in level
- * two) or 18 (an entry has the type and subprogram of an earlier one of the same directory). What a call answers besides stands
- * with it. Places are offsets into the image.
+ * `image` is a whole flash image, and places are offsets into it. Its last byte has the physical address 0xFFFFFFFF and its
+ * first 2^32 - image_len, however long it is; any other address leads out of it. An EFS is looked for at the physical addresses
+ * 0xFFFA0000, 0xFFF20000, 0xFFE20000, 0xFFC20000, 0xFF820000 and 0xFF020000, as far as the image has them: one of fewer than
+ * 0x60000 bytes has no EFS. The EFS's pointer is a physical address where it is 2^32 - image_len or more, and a place where it
+ * is below image_len; with any other value it leads out of the image.
+ *
+ * `level` is 1 or 2, any other is refused with 9. Each of these calls answers 15 for an image that is empty or has more than
+ * 16,777,216 bytes; 2 where it has no EFS; 7 where the EFS's pointer, or the entry that leads to level two, leads out of it; 8
+ * where there is no pointer or no such entry; 16 where that entry has address mode 3; and for a directory that is not good 1
+ * (cut off), 2 (cookie), 3 (total), 4 (checksum), 5 (reserved bits), 14 (type 0x40 in level two) or 18 (an entry has the type
+ * and subprogram of an earlier one of the same directory). What a call answers besides stands with it.
  */
 
 /* The EFS and its two directory pointers as they stand: the early one at 0x10, the late one at 0x14. It asks neither for a

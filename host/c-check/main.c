@@ -37,14 +37,17 @@ static void check_checksum(void)
 static const uint8_t one_entry_directory[32] = {'$', 'P', 'S', 'P', 0x02, 0x51, 0x14, 0x86, 1, 0, 0, 0, 0, 0, 0, 0,
                                                 1,   0,   0,   0,   0,    1,    0,    0,    0, 0x10, 0, 0, 0, 0, 0, 0x40};
 
+/* A board's length, and where its EFS is: there the image has the physical address 0xFFFA0000, since it ends at 2^32. */
+enum { BOARD_BYTES = 0x80000, EFS_PLACE = 0x20000 };
+
 /* An image with an EFS whose pointer leads to that directory, at 0x200. */
 static const uint8_t *board(size_t *length)
 {
-    static uint8_t image[0x20024];
+    static uint8_t image[BOARD_BYTES];
     static const uint8_t signature[4] = {0xAA, 0x55, 0xAA, 0x55};
 
-    memcpy(image + 0x20000, signature, sizeof signature);
-    image[0x20015] = 2;
+    memcpy(image + EFS_PLACE, signature, sizeof signature);
+    image[EFS_PLACE + 0x15] = 2;
     memcpy(image + 0x200, one_entry_directory, sizeof one_entry_directory);
     *length = sizeof image;
     return image;
@@ -57,10 +60,10 @@ static void check_flash(void)
     uint64_t words[6] = {0, 0, 0, 0, 0, 7};
 
     expect("the EFS is found", 0, kpalumere_efs(image, length, words, 3));
-    expect("its place", 0x20000, words[0]);
+    expect("its place", EFS_PLACE, words[0]);
     expect("its early pointer", 0, words[1]);
     expect("its late pointer", 0x200, words[2]);
-    expect("without its last byte it does not count", 2, kpalumere_efs(image, length - 1, words, 3));
+    expect("in an image without its last byte it is elsewhere", 2, kpalumere_efs(image, length - 1, words, 3));
     expect("the pointer is found", 0, kpalumere_pointer(image, length, words, 3));
     expect("its field", 0x14, words[0]);
     expect("its value", 0x200, words[1]);
@@ -92,10 +95,43 @@ static void check_flash(void)
     expect("no room is refused", 12, kpalumere_find_image(image, length, 1, 0, words, 3));
 }
 
+/* The answer to the pointer of a board whose late pointer is changed. */
+static uint64_t answer_to_pointer(uint32_t late, uint64_t *words)
+{
+    static uint8_t image[BOARD_BYTES];
+    size_t length;
+
+    memcpy(image, board(&length), sizeof image);
+    for (int i = 0; i < 4; i++)
+        image[EFS_PLACE + 0x14 + i] = (uint8_t)(late >> 8 * i);
+    return kpalumere_pointer(image, length, words, 3);
+}
+
+/* The flash ends at 2^32, so in a board of 0x80000 bytes the physical addresses begin at 0xFFF80000. */
+static void check_window(void)
+{
+    size_t length;
+    const uint8_t *image = board(&length);
+    uint64_t words[3] = {0, 0, 7};
+
+    expect("the shortest image with an EFS", 0, kpalumere_efs(image + EFS_PLACE, 0x60000, words, 3));
+    expect("has it at its start", 0, words[0]);
+    expect("a shorter one has none", 2, kpalumere_efs(image + EFS_PLACE + 1, 0x5FFFF, words, 3));
+    expect("a physical pointer", 0, answer_to_pointer(0xFFF80200, words));
+    expect("leads to its byte", 0x200, words[2]);
+    expect("the first physical address", 0, answer_to_pointer(0xFFF80000, words));
+    expect("leads to the first byte", 0, words[2]);
+    expect("one less leads out of the image", 7, answer_to_pointer(0xFFF7FFFF, words));
+    expect("the last place", 0, answer_to_pointer(BOARD_BYTES - 1, words));
+    expect("is that of the last byte", BOARD_BYTES - 1, words[2]);
+    expect("one more leads out of the image", 7, answer_to_pointer(BOARD_BYTES, words));
+    expect("so does an address that 16 MiB would have", 7, answer_to_pointer(0xFF000200, words));
+}
+
 /* Puts a directory of level one, with two entries of type 1 and the same subprogram, at 0x200 of a copy of the board. */
 static const uint8_t *board_that_repeats(size_t *length)
 {
-    static uint8_t image[0x20024];
+    static uint8_t image[BOARD_BYTES];
     uint8_t *directory = image + 0x200;
     uint64_t sum[1] = {0};
     const uint8_t *good = board(length);
@@ -415,6 +451,7 @@ int main(void)
 {
     check_checksum();
     check_flash();
+    check_window();
     check_repeated();
     check_version();
     check_entry_version();

@@ -136,5 +136,5 @@ accepted-again = record {
   by-cookie = by-cookie;
   flash = λ r level image d psp bytes. flash r image psp bytes level d;
   led = λ r image o e d psp bytes. led r image psp bytes o e d;
-  base = record { kind = refl; limit = omega arith };
+  rules = λ image. record { kind = refl; limit = omega arith };
 }

@@ -10,7 +10,7 @@ use Rattle.directory.specs.declared.Kind.{Kind}
 use Rattle.directory.specs.declared.Directory.{Directory}
 use Rattle.entries.specs.Entry.{entryIn}
 use Rattle.entries.specs.declared.Entry.{Entry}
-use Rattle.efs.specs.Rules.{baseRules}
+use Rattle.efs.specs.Rules.{rulesOf}
 use Rattle.efs.specs.declared.Rules.{Rules}
 use Rattle.flash.specs.Flash.{levelTwoAt, flashDirectory}
 use Rattle.build.specs.Write.{directoryBytes}
@@ -63,5 +63,5 @@ pub record AcceptedAgain : Type 0 where
   pub flash : (r : Rules) (level : ℕ) (image : List ℕ) (d : Directory) → PspRules r → Bytes image → flashDirectory r level image ≡ given d → (d .level ≡ level) × WrittenAgain image d
   -- of level two by any lead, as the lookup in the whole image enters it
   pub led : (r : Rules) (image : List ℕ) (o : ℕ) (e : Entry) (d : Directory) → PspRules r → Bytes image → levelTwoAt r image o e ≡ given d → (d .level ≡ 2) × WrittenAgain image d
-  -- document 01's rules are such
-  pub base : PspRules baseRules
+  -- the rules of every image are such
+  pub rules : (image : List ℕ) → PspRules (rulesOf image)

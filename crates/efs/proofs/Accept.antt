@@ -77,7 +77,7 @@ module _ (window : ℕ) (fits : window ≤ fourGiB) (s : List ℕ) where
     efs-is : efsPlace window candidates s ≡ scan (λ j rest. cond (efs-test (getD candidates j 0)) (at-candidate j) rest) (λ _. refused 2 alone) (length candidates) 0
     efs-is = scan-same (efsStep window candidates s) _ (λ _. refused 2 alone) (length candidates) 0 (λ j a b rest. candidate-is (getD candidates j 0) rest)
 
-    only-efs : (e : Offset) → efsPlace window candidates s ≡ given e → (i : ℕ) × (l : Lowest Candidate (length candidates) i) × (l .here .place ≡ e .0)
+    pub only-efs : (e : Offset) → efsPlace window candidates s ≡ given e → (i : ℕ) × (l : Lowest Candidate (length candidates) i) × (l .here .place ≡ e .0)
     only-efs e q = by (searched Candidate decided at-candidate (λ _. refused 2 alone) (length candidates))
       where
         by : Searched Candidate at-candidate (λ _. refused 2 alone) (length candidates) (scan (λ j rest. cond (efs-test (getD candidates j 0)) (at-candidate j) rest) (λ _. refused 2 alone) (length candidates) 0) →
@@ -88,7 +88,7 @@ module _ (window : ℕ) (fits : window ≤ fourGiB) (s : List ℕ) where
             (i, l, sym (shown-by (getD candidates i 0) (l .here .place) (l .here .shown)) ∙ o)
         by (none f h) = clash (sym (efs-is ∙ h) ∙ q)
 
-    all-efs : (i : ℕ) (l : Lowest Candidate (length candidates) i) → efsPlace window candidates s ≡ given (record { 0 = l .here .place })
+    pub all-efs : (i : ℕ) (l : Lowest Candidate (length candidates) i) → efsPlace window candidates s ≡ given (record { 0 = l .here .place })
     all-efs i l =
         efs-is ∙ lowest-found Candidate decided at-candidate (λ _. refused 2 alone) (length candidates) i l
         ∙ ap (λ (x : ℕ). given (record { 0 = x })) (shown-by (getD candidates i 0) (l .here .place) (l .here .shown))
@@ -123,7 +123,7 @@ module _ (window : ℕ) (fits : window ≤ fourGiB) (s : List ℕ) where
       let q : x .0 ≡ o .0 = cc (g .1) in
       (q, omega arith)
 
-  pointer-fact : (p : ℕ) (o : Offset) → pointerTo window s p ≡ given o → PointsTo window p (o .0) × (o .0 ≤ length s)
+  pub pointer-fact : (p : ℕ) (o : Offset) → pointerTo window s p ≡ given o → PointsTo window p (o .0) × (o .0 ≤ length s)
   unfolding pointerTo
   pointer-fact p o e =
       either (leb (windowStart window) p) _ _ e

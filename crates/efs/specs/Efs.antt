@@ -55,9 +55,9 @@ absent p = eqb p 0 || eqb p 0xFFFF_FFFF
 -- where pointer p leads
 unfoldable pub pointerTo : (window : ℕ) → (image : List ℕ) → (p : ℕ) → Reply Offset
 pointerTo window image p =
-    cond (leb (windowStart window) p) (then (offsetIn window p) (λ o. within image (o .0) (given o)))  -- 0xFF000000 or more: physical
-    (guard (ltb p window) 7  -- neither that nor below 0x01000000 (7)
-    (within image p (given (record { 0 = p }))))  -- below 0x01000000: a flash offset
+    cond (leb (windowStart window) p) (then (offsetIn window p) (λ o. within image (o .0) (given o)))  -- at the window's begin or above: physical
+    (guard (ltb p window) 7  -- neither that nor below the window's length (7)
+    (within image p (given (record { 0 = p }))))  -- below the window's length: a flash offset
 
 -- pointer p, which stands in a field of the EFS: the field, the pointer, and where it leads
 abbrev pub pointerFrom : (window : ℕ) → (image : List ℕ) → (field p : ℕ) → Reply Pointer

@@ -1,7 +1,7 @@
 // From a flash image to its EFS and its directory pointer, and the rules that every call on an image goes by.
 ghost use mathlib.Core.Path.{_≡_};
 ghost use Rattle.window.specs.Window.{toldOffset};
-ghost use Rattle.efs.specs.Rules.{baseRules};
+ghost use Rattle.efs.specs.Rules.{rulesOf};
 ghost use Rattle.efs.specs.Efs.{counts, candidateAt, efsPlace, efsAt, efsIn, absent, pointerTo, pointerFrom, pointerOf, pointerIn, flashEfs, flashPointer, toldEfs, toldPointer};
 use directory::Kind;
 use reply::Refusal;
@@ -14,7 +14,7 @@ use window::Physical;
 pub struct Rules {
     pub kind: Kind,
     pub limit: u32,
-    pub window: u32,
+    pub window: usize,
     pub candidates: [u64; 6],
 }
 
@@ -60,14 +60,14 @@ pub enum PointerAnswer {
     Refused(Refusal),
 }
 
-// Document 01's rules.
-pub fn base_rules() -> Rules
-    ensures { λ r. ⌜ r ≡ baseRules ⌝ }
+// The rules for an image: its window is as long as the image.
+pub fn rules_of(image: &[u8]) -> Rules
+    ensures { λ r. ⌜ r ≡ rulesOf (now (image .entry)) ⌝ }
 {
     Rules {
         kind: directory::psp_kind(),
         limit: Rules::LIMIT,
-        window: Physical::WINDOW,
+        window: image.len(),
         candidates: [
             0xFFFA0000,
             0xFFF20000,
@@ -81,10 +81,10 @@ pub fn base_rules() -> Rules
 
 // The EFS: its place and its two directory pointers.
 pub fn flash_efs(image: &[u8]) -> EfsAnswer
-    ensures { λ r. ⌜ toldEfs r ≡ flashEfs baseRules (now (image .entry)) ⌝ }
+    ensures { λ r. ⌜ toldEfs r ≡ flashEfs (rulesOf (now (image .entry))) (now (image .entry)) ⌝ }
 {
     if window::length_allowed(image) {
-        efs_in(image, base_rules())
+        efs_in(image, rules_of(image))
     } else {
         EfsAnswer::Refused(Refusal::IMAGE)
     }
@@ -92,10 +92,10 @@ pub fn flash_efs(image: &[u8]) -> EfsAnswer
 
 // The directory pointer: the field that holds it, its value, and the place where it leads.
 pub fn flash_pointer(image: &[u8]) -> PointerAnswer
-    ensures { λ r. ⌜ toldPointer r ≡ flashPointer baseRules (now (image .entry)) ⌝ }
+    ensures { λ r. ⌜ toldPointer r ≡ flashPointer (rulesOf (now (image .entry))) (now (image .entry)) ⌝ }
 {
     if window::length_allowed(image) {
-        pointer_in(image, base_rules())
+        pointer_in(image, rules_of(image))
     } else {
         PointerAnswer::Refused(Refusal::IMAGE)
     }
@@ -124,7 +124,7 @@ fn efs_in(image: &[u8], rules: Rules) -> EfsAnswer
 }
 
 // Where the EFS is: the first candidate that counts.
-fn efs_place(image: &[u8], window: u32, candidates: &[u64]) -> OffsetAnswer
+fn efs_place(image: &[u8], window: usize, candidates: &[u64]) -> OffsetAnswer
     ensures { λ r. ⌜ toldOffset r ≡ efsPlace window (now (candidates .entry)) (now (image .entry)) ⌝ }
 {
     let mut i: usize = 0;
@@ -139,7 +139,7 @@ fn efs_place(image: &[u8], window: u32, candidates: &[u64]) -> OffsetAnswer
 }
 
 // The EFS at a physical address, if it counts.
-fn candidate_at(image: &[u8], window: u32, address: u64) -> OffsetAnswer
+fn candidate_at(image: &[u8], window: usize, address: u64) -> OffsetAnswer
     ensures { λ r. ⌜ toldOffset r ≡ candidateAt window (now (image .entry)) address ⌝ }
 {
     match Physical(address).offset(window) {
@@ -179,7 +179,7 @@ fn efs_at(image: &[u8], at: Offset) -> Efs
 }
 
 // The directory pointer of an EFS.
-fn pointer_of(image: &[u8], window: u32, efs: Efs) -> PointerAnswer
+fn pointer_of(image: &[u8], window: usize, efs: Efs) -> PointerAnswer
     ensures { λ r. ⌜ toldPointer r ≡ pointerOf window (now (image .entry)) efs ⌝ }
 {
     if absent(efs.late) {
@@ -199,7 +199,7 @@ fn absent(p: u32) -> bool
 }
 
 // A pointer that stands in a field of the EFS, and where it leads.
-fn pointer_from(image: &[u8], window: u32, field: u32, value: u32) -> PointerAnswer
+fn pointer_from(image: &[u8], window: usize, field: u32, value: u32) -> PointerAnswer
     ensures { λ r. ⌜ toldPointer r ≡ pointerFrom window (now (image .entry)) field value ⌝ }
 {
     match pointer_to(image, window, value) {
@@ -213,13 +213,13 @@ fn pointer_from(image: &[u8], window: u32, field: u32, value: u32) -> PointerAns
 }
 
 // Where a pointer leads: by the window, where that shows it, else as an offset.
-fn pointer_to(image: &[u8], window: u32, p: u32) -> OffsetAnswer
+fn pointer_to(image: &[u8], window: usize, p: u32) -> OffsetAnswer
     ensures { λ r. ⌜ toldOffset r ≡ pointerTo window (now (image .entry)) p ⌝ }
 {
     match Physical(p as u64).offset(window) {
         OffsetAnswer::Given(o) => o.within(image),
         OffsetAnswer::Refused(_) => {
-            if p < window {
+            if (p as usize) < window {
                 return Offset(p).within(image);
             }
             OffsetAnswer::Refused(Refusal::OUTSIDE)

@@ -161,7 +161,7 @@ fn place_in(image: &[u8], base: u32, location: u64) -> OffsetAnswer
 }
 
 // Where the location of an entry leads, in an image of a length that is allowed.
-fn place_of(image: &[u8], window: u32, at: Offset, e: Entry) -> OffsetAnswer
+fn place_of(image: &[u8], window: usize, at: Offset, e: Entry) -> OffsetAnswer
     requires { ⌜ length (now image) ≤ longest ⌝ }
     ensures { λ r. ⌜ toldOffset r ≡ leadsTo window (now (image .entry)) (at .0) e ⌝ }
 {
@@ -181,7 +181,7 @@ fn place_of(image: &[u8], window: u32, at: Offset, e: Entry) -> OffsetAnswer
 }
 
 // Where the location of an entry leads, in a directory at an offset, through a window of so many bytes.
-pub fn leads_to(image: &[u8], window: u32, at: Offset, e: Entry) -> OffsetAnswer
+pub fn leads_to(image: &[u8], window: usize, at: Offset, e: Entry) -> OffsetAnswer
     ensures { λ r. ⌜ toldOffset r ≡ sized (now (image .entry)) (leadsTo window (now (image .entry)) (at .0) e) ⌝ }
 {
     if window::length_allowed(image) {
@@ -218,7 +218,7 @@ fn part_within(image: &[u8], place: Offset, size: u32) -> PartAnswer
 }
 
 // Where an entry's bytes lie, in an image of a length that is allowed.
-fn part_of(image: &[u8], kind: Kind, window: u32, at: Offset, e: Entry) -> PartAnswer
+fn part_of(image: &[u8], kind: Kind, window: usize, at: Offset, e: Entry) -> PartAnswer
     requires { ⌜ length (now image) ≤ longest ⌝ }
     ensures { λ r. ⌜ toldPart r ≡ partOf kind window (now (image .entry)) (at .0) e ⌝ }
 {
@@ -232,7 +232,7 @@ fn part_of(image: &[u8], kind: Kind, window: u32, at: Offset, e: Entry) -> PartA
 }
 
 // Where the bytes of entry i lie, in such an image.
-fn part_sized(image: &[u8], kind: Kind, window: u32, d: Directory, i: usize) -> PartAnswer
+fn part_sized(image: &[u8], kind: Kind, window: usize, d: Directory, i: usize) -> PartAnswer
     requires { ⌜ length (now image) ≤ longest ⌝ }
     ensures { λ r. ⌜ toldPart r ≡ partIn kind window (now (image .entry)) d i ⌝ }
 {
@@ -243,7 +243,7 @@ fn part_sized(image: &[u8], kind: Kind, window: u32, d: Directory, i: usize) -> 
 }
 
 // Where the bytes of entry i of a directory lie, or why there are none.
-pub fn part_in(image: &[u8], kind: Kind, window: u32, d: Directory, i: usize) -> PartAnswer
+pub fn part_in(image: &[u8], kind: Kind, window: usize, d: Directory, i: usize) -> PartAnswer
     ensures { λ r. ⌜ toldPart r ≡ sized (now (image .entry)) (partIn kind window (now (image .entry)) d i) ⌝ }
 {
     if window::length_allowed(image) {
@@ -254,7 +254,7 @@ pub fn part_in(image: &[u8], kind: Kind, window: u32, d: Directory, i: usize) ->
 }
 
 // The bytes of entry i of a directory: that part of the caller's image. Where refused there are none, and `part_in` gives the number.
-pub fn bytes_in<'a>(image: &'a [u8], kind: Kind, window: u32, d: Directory, i: usize) -> &'a [u8]
+pub fn bytes_in<'a>(image: &'a [u8], kind: Kind, window: usize, d: Directory, i: usize) -> &'a [u8]
     ensures { λ r. ⌜ now r ≡ bytesOf (now (image .entry)) (sized (now (image .entry)) (partIn kind window (now (image .entry)) d i)) ⌝ }
     ensures { λ r. ⌜ r .ptr ≡ beginOf (image .entry .ptr) (sized (now (image .entry)) (partIn kind window (now (image .entry)) d i)) ⌝ }
 {

@@ -6,7 +6,7 @@ ghost use Rattle.entries.specs.Entry.{toldEntry, toldMatch};
 ghost use Rattle.entries.specs.Part.{toldPart, bytesOf, beginOf};
 ghost use mathlib.Core.Bool.{true};
 ghost use Rattle.window.specs.Length.{lengthAllowed, sized};
-ghost use Rattle.efs.specs.Rules.{baseRules};
+ghost use Rattle.efs.specs.Rules.{rulesOf};
 ghost use Rattle.flash.specs.Flash.{levelOne, levelTwoAt, levelTwo, levelOf, flashDirectory, flashEntry, flashPart, fromLookup, flashFind};
 use directory::Directory;
 use directory::DirectoryAnswer;
@@ -22,16 +22,16 @@ use window::OffsetAnswer;
 
 // The directory of a level: its place, its level and its total.
 pub fn directory(image: &[u8], level: u32) -> DirectoryAnswer
-    ensures { λ r. ⌜ toldDirectory r ≡ flashDirectory baseRules level (now (image .entry)) ⌝ }
+    ensures { λ r. ⌜ toldDirectory r ≡ flashDirectory (rulesOf (now (image .entry))) level (now (image .entry)) ⌝ }
 {
-    flash_directory(image, efs::base_rules(), level)
+    flash_directory(image, efs::rules_of(image), level)
 }
 
 // Entry i of the directory of a level.
 pub fn entry(image: &[u8], level: u32, i: usize) -> EntryAnswer
-    ensures { λ r. ⌜ toldEntry r ≡ flashEntry baseRules level (now (image .entry)) i ⌝ }
+    ensures { λ r. ⌜ toldEntry r ≡ flashEntry (rulesOf (now (image .entry))) level (now (image .entry)) i ⌝ }
 {
-    let rules = efs::base_rules();
+    let rules = efs::rules_of(image);
     match flash_directory(image, rules, level) {
         DirectoryAnswer::Given(d) => entries::entry_in(image, rules.kind, d, i),
         DirectoryAnswer::Refused(why) => EntryAnswer::Refused(why),
@@ -40,9 +40,9 @@ pub fn entry(image: &[u8], level: u32, i: usize) -> EntryAnswer
 
 // Where the bytes of entry i of the directory of a level lie, or why there are none.
 pub fn part(image: &[u8], level: u32, i: usize) -> PartAnswer
-    ensures { λ r. ⌜ toldPart r ≡ flashPart baseRules level (now (image .entry)) i ⌝ }
+    ensures { λ r. ⌜ toldPart r ≡ flashPart (rulesOf (now (image .entry))) level (now (image .entry)) i ⌝ }
 {
-    let rules = efs::base_rules();
+    let rules = efs::rules_of(image);
     match flash_directory(image, rules, level) {
         DirectoryAnswer::Given(d) => entries::part_in(image, rules.kind, rules.window, d, i),
         DirectoryAnswer::Refused(why) => PartAnswer::Refused(why),
@@ -51,10 +51,10 @@ pub fn part(image: &[u8], level: u32, i: usize) -> PartAnswer
 
 // The bytes of entry i of the directory of a level: that part of the caller's image. Where refused there are none, and `part` gives the number.
 pub fn bytes<'a>(image: &'a [u8], level: u32, i: usize) -> &'a [u8]
-    ensures { λ r. ⌜ now r ≡ bytesOf (now (image .entry)) (flashPart baseRules level (now (image .entry)) i) ⌝ }
-    ensures { λ r. ⌜ r .ptr ≡ beginOf (image .entry .ptr) (flashPart baseRules level (now (image .entry)) i) ⌝ }
+    ensures { λ r. ⌜ now r ≡ bytesOf (now (image .entry)) (flashPart (rulesOf (now (image .entry))) level (now (image .entry)) i) ⌝ }
+    ensures { λ r. ⌜ r .ptr ≡ beginOf (image .entry .ptr) (flashPart (rulesOf (now (image .entry))) level (now (image .entry)) i) ⌝ }
 {
-    let rules = efs::base_rules();
+    let rules = efs::rules_of(image);
     match flash_directory(image, rules, level) {
         DirectoryAnswer::Given(d) => entries::bytes_in(image, rules.kind, rules.window, d, i),
         DirectoryAnswer::Refused(_) => &image[0..0],
@@ -63,9 +63,9 @@ pub fn bytes<'a>(image: &'a [u8], level: u32, i: usize) -> &'a [u8]
 
 // The lookup by type and subprogram in the directory of a level.
 pub fn find(image: &[u8], level: u32, class: u8, sub: u8) -> MatchAnswer
-    ensures { λ r. ⌜ toldMatch r ≡ flashFind baseRules level (now (image .entry)) class sub ⌝ }
+    ensures { λ r. ⌜ toldMatch r ≡ flashFind (rulesOf (now (image .entry))) level (now (image .entry)) class sub ⌝ }
 {
-    let rules = efs::base_rules();
+    let rules = efs::rules_of(image);
     match flash_directory(image, rules, level) {
         DirectoryAnswer::Given(d) => entries::find_in(image, rules.kind, d, class, sub),
         DirectoryAnswer::Refused(why) => no_lookup(why),

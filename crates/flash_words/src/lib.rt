@@ -4,7 +4,7 @@ ghost use mathlib.Core.Path.{_≡_};
 ghost use Rattle.reply.specs.Reply.{given};
 ghost use Rattle.fletcher.specs.Fletcher.{fletcherOf};
 ghost use Rattle.lent.specs.Lent.{numberLeft, wordsLeft, layNumber};
-ghost use Rattle.efs.specs.Rules.{baseRules};
+ghost use Rattle.efs.specs.Rules.{rulesOf};
 ghost use Rattle.efs.specs.Efs.{flashEfs, flashPointer};
 ghost use Rattle.flash.specs.Flash.{flashDirectory, flashEntry, flashPart, flashFind};
 ghost use Rattle.walk.specs.Walk.{findImage};
@@ -23,8 +23,8 @@ use walk::ImageMatchAnswer;
 
 // Three words: the EFS's place, and its pointers at 0x10 and at 0x14 as they stand.
 pub fn efs(image: &[u8], words: &mut [u64]) -> u64
-    ensures { λ r. ⌜ r ≡ numberLeft layEfs (flashEfs baseRules (now (image .entry))) (now (words .entry)) ⌝ }
-    ensures { λ _. ⌜ now (words .exit) ≡ wordsLeft layEfs (flashEfs baseRules (now (image .entry))) (now (words .entry)) ⌝ }
+    ensures { λ r. ⌜ r ≡ numberLeft layEfs (flashEfs (rulesOf (now (image .entry))) (now (image .entry))) (now (words .entry)) ⌝ }
+    ensures { λ _. ⌜ now (words .exit) ≡ wordsLeft layEfs (flashEfs (rulesOf (now (image .entry))) (now (image .entry))) (now (words .entry)) ⌝ }
 {
     match efs::flash_efs(image) {
         EfsAnswer::Given(e) => {
@@ -38,8 +38,8 @@ pub fn efs(image: &[u8], words: &mut [u64]) -> u64
 
 // Three words: the field of the EFS that holds the directory pointer, its value, and the place where it leads.
 pub fn pointer(image: &[u8], words: &mut [u64]) -> u64
-    ensures { λ r. ⌜ r ≡ numberLeft layPointer (flashPointer baseRules (now (image .entry))) (now (words .entry)) ⌝ }
-    ensures { λ _. ⌜ now (words .exit) ≡ wordsLeft layPointer (flashPointer baseRules (now (image .entry))) (now (words .entry)) ⌝ }
+    ensures { λ r. ⌜ r ≡ numberLeft layPointer (flashPointer (rulesOf (now (image .entry))) (now (image .entry))) (now (words .entry)) ⌝ }
+    ensures { λ _. ⌜ now (words .exit) ≡ wordsLeft layPointer (flashPointer (rulesOf (now (image .entry))) (now (image .entry))) (now (words .entry)) ⌝ }
 {
     match efs::flash_pointer(image) {
         PointerAnswer::Given(p) => {
@@ -53,8 +53,8 @@ pub fn pointer(image: &[u8], words: &mut [u64]) -> u64
 
 // Three words: the directory's place, level and total.
 pub fn directory(image: &[u8], level: u32, words: &mut [u64]) -> u64
-    ensures { λ r. ⌜ r ≡ numberLeft layDirectory (flashDirectory baseRules level (now (image .entry))) (now (words .entry)) ⌝ }
-    ensures { λ _. ⌜ now (words .exit) ≡ wordsLeft layDirectory (flashDirectory baseRules level (now (image .entry))) (now (words .entry)) ⌝ }
+    ensures { λ r. ⌜ r ≡ numberLeft layDirectory (flashDirectory (rulesOf (now (image .entry))) level (now (image .entry))) (now (words .entry)) ⌝ }
+    ensures { λ _. ⌜ now (words .exit) ≡ wordsLeft layDirectory (flashDirectory (rulesOf (now (image .entry))) level (now (image .entry))) (now (words .entry)) ⌝ }
 {
     match flash::directory(image, level) {
         DirectoryAnswer::Given(d) => {
@@ -70,8 +70,8 @@ pub fn directory(image: &[u8], level: u32, words: &mut [u64]) -> u64
 
 // Four words: of a directory that is refused since an entry repeats, that entry, the earlier one, and the type and subprogram of both.
 pub fn repeated(image: &[u8], level: u32, words: &mut [u64]) -> u64
-    ensures { λ r. ⌜ r ≡ numberLeft layRepeat (flashRepeats baseRules level (now (image .entry))) (now (words .entry)) ⌝ }
-    ensures { λ _. ⌜ now (words .exit) ≡ wordsLeft layRepeat (flashRepeats baseRules level (now (image .entry))) (now (words .entry)) ⌝ }
+    ensures { λ r. ⌜ r ≡ numberLeft layRepeat (flashRepeats (rulesOf (now (image .entry))) level (now (image .entry))) (now (words .entry)) ⌝ }
+    ensures { λ _. ⌜ now (words .exit) ≡ wordsLeft layRepeat (flashRepeats (rulesOf (now (image .entry))) level (now (image .entry))) (now (words .entry)) ⌝ }
 {
     match repeats::repeated(image, level) {
         RepeatAnswer::Given(r) => {
@@ -89,8 +89,8 @@ pub fn repeated(image: &[u8], level: u32, words: &mut [u64]) -> u64
 
 // Five words: the entry's type, subprogram, size, location and mode.
 pub fn entry(image: &[u8], level: u32, index: u64, words: &mut [u64]) -> u64
-    ensures { λ r. ⌜ r ≡ numberLeft layEntry (flashEntry baseRules level (now (image .entry)) index) (now (words .entry)) ⌝ }
-    ensures { λ _. ⌜ now (words .exit) ≡ wordsLeft layEntry (flashEntry baseRules level (now (image .entry)) index) (now (words .entry)) ⌝ }
+    ensures { λ r. ⌜ r ≡ numberLeft layEntry (flashEntry (rulesOf (now (image .entry))) level (now (image .entry)) index) (now (words .entry)) ⌝ }
+    ensures { λ _. ⌜ now (words .exit) ≡ wordsLeft layEntry (flashEntry (rulesOf (now (image .entry))) level (now (image .entry)) index) (now (words .entry)) ⌝ }
 {
     match flash::entry(image, level, index as usize) {
         EntryAnswer::Given(e) => {
@@ -109,8 +109,8 @@ pub fn entry(image: &[u8], level: u32, index: u64, words: &mut [u64]) -> u64
 
 // Two words: where the entry's bytes begin in the image, and how many they are.
 pub fn part(image: &[u8], level: u32, index: u64, words: &mut [u64]) -> u64
-    ensures { λ r. ⌜ r ≡ numberLeft layPart (flashPart baseRules level (now (image .entry)) index) (now (words .entry)) ⌝ }
-    ensures { λ _. ⌜ now (words .exit) ≡ wordsLeft layPart (flashPart baseRules level (now (image .entry)) index) (now (words .entry)) ⌝ }
+    ensures { λ r. ⌜ r ≡ numberLeft layPart (flashPart (rulesOf (now (image .entry))) level (now (image .entry)) index) (now (words .entry)) ⌝ }
+    ensures { λ _. ⌜ now (words .exit) ≡ wordsLeft layPart (flashPart (rulesOf (now (image .entry))) level (now (image .entry)) index) (now (words .entry)) ⌝ }
 {
     match flash::part(image, level, index as usize) {
         PartAnswer::Given(p) => {
@@ -125,8 +125,8 @@ pub fn part(image: &[u8], level: u32, index: u64, words: &mut [u64]) -> u64
 
 // Two words: the match's index, and how many entries were tested; with an 8 one word, how many were tested.
 pub fn find(image: &[u8], level: u32, class: u8, sub: u8, words: &mut [u64]) -> u64
-    ensures { λ r. ⌜ r ≡ numberLeft layMatch (flashFind baseRules level (now (image .entry)) class sub) (now (words .entry)) ⌝ }
-    ensures { λ _. ⌜ now (words .exit) ≡ wordsLeft layMatch (flashFind baseRules level (now (image .entry)) class sub) (now (words .entry)) ⌝ }
+    ensures { λ r. ⌜ r ≡ numberLeft layMatch (flashFind (rulesOf (now (image .entry))) level (now (image .entry)) class sub) (now (words .entry)) ⌝ }
+    ensures { λ _. ⌜ now (words .exit) ≡ wordsLeft layMatch (flashFind (rulesOf (now (image .entry))) level (now (image .entry)) class sub) (now (words .entry)) ⌝ }
 {
     match flash::find(image, level, class, sub) {
         MatchAnswer::Given(m) => {
@@ -143,8 +143,8 @@ pub fn find(image: &[u8], level: u32, class: u8, sub: u8, words: &mut [u64]) -> 
 
 // Four words: the place and level of the match's directory, its index, and how many entries were tested; with an 8 one word, how many were tested.
 pub fn find_image(image: &[u8], class: u8, sub: u8, words: &mut [u64]) -> u64
-    ensures { λ r. ⌜ r ≡ numberLeft layImageMatch (findImage baseRules (now (image .entry)) class sub) (now (words .entry)) ⌝ }
-    ensures { λ _. ⌜ now (words .exit) ≡ wordsLeft layImageMatch (findImage baseRules (now (image .entry)) class sub) (now (words .entry)) ⌝ }
+    ensures { λ r. ⌜ r ≡ numberLeft layImageMatch (findImage (rulesOf (now (image .entry))) (now (image .entry)) class sub) (now (words .entry)) ⌝ }
+    ensures { λ _. ⌜ now (words .exit) ≡ wordsLeft layImageMatch (findImage (rulesOf (now (image .entry))) (now (image .entry)) class sub) (now (words .entry)) ⌝ }
 {
     match walk::find_image(image, class, sub) {
         ImageMatchAnswer::Given(f) => {

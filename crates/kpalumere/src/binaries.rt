@@ -1,7 +1,7 @@
 // Firmware binaries: the version in a binary's header.
 ghost use mathlib.Core.Path.{_≡_};
 ghost use Rattle.lent.specs.Lent.{numberLeft, wordsLeft, layNumber};
-ghost use Rattle.efs.specs.Rules.{baseRules};
+ghost use Rattle.efs.specs.Rules.{rulesOf};
 ghost use Rattle.flash.specs.Flash.{flashPart};
 ghost use Rattle.version.specs.Version.{versionOf};
 ghost use Rattle.version_words.specs.Versions.{versionIn};
@@ -23,8 +23,8 @@ pub extern "C" fn kpalumere_entry_version(
     index: u64,
     words: &mut [u64],
 ) -> u64
-    ensures { λ r. ⌜ r ≡ numberLeft layNumber (versionIn (now (image .entry)) (flashPart baseRules level (now (image .entry)) index)) (now (words .entry)) ⌝ }
-    ensures { λ _. ⌜ now (words .exit) ≡ wordsLeft layNumber (versionIn (now (image .entry)) (flashPart baseRules level (now (image .entry)) index)) (now (words .entry)) ⌝ }
+    ensures { λ r. ⌜ r ≡ numberLeft layNumber (versionIn (now (image .entry)) (flashPart (rulesOf (now (image .entry))) level (now (image .entry)) index)) (now (words .entry)) ⌝ }
+    ensures { λ _. ⌜ now (words .exit) ≡ wordsLeft layNumber (versionIn (now (image .entry)) (flashPart (rulesOf (now (image .entry))) level (now (image .entry)) index)) (now (words .entry)) ⌝ }
 {
     version_words::entry(image, level, index, words)
 }

@@ -1,7 +1,7 @@
 // Flash images: the EFS, the directory pointer, the directory of a level, its entries, where their bytes lie, and the lookups.
 ghost use mathlib.Core.Path.{_≡_};
 ghost use Rattle.lent.specs.Lent.{numberLeft, wordsLeft};
-ghost use Rattle.efs.specs.Rules.{baseRules};
+ghost use Rattle.efs.specs.Rules.{rulesOf};
 ghost use Rattle.efs.specs.Efs.{flashEfs, flashPointer};
 ghost use Rattle.flash.specs.Flash.{flashDirectory, flashEntry, flashPart, flashFind};
 ghost use Rattle.repeats.specs.Repeats.{flashRepeats};
@@ -11,8 +11,8 @@ ghost use Rattle.flash_words.specs.Images.{layEfs, layPointer, layDirectory, la
 // Three words: the EFS's place, and its pointers at 0x10 and at 0x14 as they stand.
 #[no_mangle]
 pub extern "C" fn kpalumere_efs(image: &[u8], words: &mut [u64]) -> u64
-    ensures { λ r. ⌜ r ≡ numberLeft layEfs (flashEfs baseRules (now (image .entry))) (now (words .entry)) ⌝ }
-    ensures { λ _. ⌜ now (words .exit) ≡ wordsLeft layEfs (flashEfs baseRules (now (image .entry))) (now (words .entry)) ⌝ }
+    ensures { λ r. ⌜ r ≡ numberLeft layEfs (flashEfs (rulesOf (now (image .entry))) (now (image .entry))) (now (words .entry)) ⌝ }
+    ensures { λ _. ⌜ now (words .exit) ≡ wordsLeft layEfs (flashEfs (rulesOf (now (image .entry))) (now (image .entry))) (now (words .entry)) ⌝ }
 {
     flash_words::efs(image, words)
 }
@@ -20,8 +20,8 @@ pub extern "C" fn kpalumere_efs(image: &[u8], words: &mut [u64]) -> u64
 // Three words: the field of the EFS that holds the directory pointer, its value, and the place where it leads.
 #[no_mangle]
 pub extern "C" fn kpalumere_pointer(image: &[u8], words: &mut [u64]) -> u64
-    ensures { λ r. ⌜ r ≡ numberLeft layPointer (flashPointer baseRules (now (image .entry))) (now (words .entry)) ⌝ }
-    ensures { λ _. ⌜ now (words .exit) ≡ wordsLeft layPointer (flashPointer baseRules (now (image .entry))) (now (words .entry)) ⌝ }
+    ensures { λ r. ⌜ r ≡ numberLeft layPointer (flashPointer (rulesOf (now (image .entry))) (now (image .entry))) (now (words .entry)) ⌝ }
+    ensures { λ _. ⌜ now (words .exit) ≡ wordsLeft layPointer (flashPointer (rulesOf (now (image .entry))) (now (image .entry))) (now (words .entry)) ⌝ }
 {
     flash_words::pointer(image, words)
 }
@@ -29,8 +29,8 @@ pub extern "C" fn kpalumere_pointer(image: &[u8], words: &mut [u64]) -> u64
 // Three words: the directory's place, level and total.
 #[no_mangle]
 pub extern "C" fn kpalumere_directory(image: &[u8], level: u32, words: &mut [u64]) -> u64
-    ensures { λ r. ⌜ r ≡ numberLeft layDirectory (flashDirectory baseRules level (now (image .entry))) (now (words .entry)) ⌝ }
-    ensures { λ _. ⌜ now (words .exit) ≡ wordsLeft layDirectory (flashDirectory baseRules level (now (image .entry))) (now (words .entry)) ⌝ }
+    ensures { λ r. ⌜ r ≡ numberLeft layDirectory (flashDirectory (rulesOf (now (image .entry))) level (now (image .entry))) (now (words .entry)) ⌝ }
+    ensures { λ _. ⌜ now (words .exit) ≡ wordsLeft layDirectory (flashDirectory (rulesOf (now (image .entry))) level (now (image .entry))) (now (words .entry)) ⌝ }
 {
     flash_words::directory(image, level, words)
 }
@@ -38,8 +38,8 @@ pub extern "C" fn kpalumere_directory(image: &[u8], level: u32, words: &mut [u64
 // Four words: of a directory that is refused since an entry repeats, that entry, the earlier one, and the type and subprogram of both.
 #[no_mangle]
 pub extern "C" fn kpalumere_repeated(image: &[u8], level: u32, words: &mut [u64]) -> u64
-    ensures { λ r. ⌜ r ≡ numberLeft layRepeat (flashRepeats baseRules level (now (image .entry))) (now (words .entry)) ⌝ }
-    ensures { λ _. ⌜ now (words .exit) ≡ wordsLeft layRepeat (flashRepeats baseRules level (now (image .entry))) (now (words .entry)) ⌝ }
+    ensures { λ r. ⌜ r ≡ numberLeft layRepeat (flashRepeats (rulesOf (now (image .entry))) level (now (image .entry))) (now (words .entry)) ⌝ }
+    ensures { λ _. ⌜ now (words .exit) ≡ wordsLeft layRepeat (flashRepeats (rulesOf (now (image .entry))) level (now (image .entry))) (now (words .entry)) ⌝ }
 {
     flash_words::repeated(image, level, words)
 }
@@ -47,8 +47,8 @@ pub extern "C" fn kpalumere_repeated(image: &[u8], level: u32, words: &mut [u64]
 // Five words: the entry's type, subprogram, size, location and mode.
 #[no_mangle]
 pub extern "C" fn kpalumere_entry(image: &[u8], level: u32, index: u64, words: &mut [u64]) -> u64
-    ensures { λ r. ⌜ r ≡ numberLeft layEntry (flashEntry baseRules level (now (image .entry)) index) (now (words .entry)) ⌝ }
-    ensures { λ _. ⌜ now (words .exit) ≡ wordsLeft layEntry (flashEntry baseRules level (now (image .entry)) index) (now (words .entry)) ⌝ }
+    ensures { λ r. ⌜ r ≡ numberLeft layEntry (flashEntry (rulesOf (now (image .entry))) level (now (image .entry)) index) (now (words .entry)) ⌝ }
+    ensures { λ _. ⌜ now (words .exit) ≡ wordsLeft layEntry (flashEntry (rulesOf (now (image .entry))) level (now (image .entry)) index) (now (words .entry)) ⌝ }
 {
     flash_words::entry(image, level, index, words)
 }
@@ -56,8 +56,8 @@ pub extern "C" fn kpalumere_entry(image: &[u8], level: u32, index: u64, words: &
 // Two words: where the entry's bytes begin in the image, and how many they are.
 #[no_mangle]
 pub extern "C" fn kpalumere_part(image: &[u8], level: u32, index: u64, words: &mut [u64]) -> u64
-    ensures { λ r. ⌜ r ≡ numberLeft layPart (flashPart baseRules level (now (image .entry)) index) (now (words .entry)) ⌝ }
-    ensures { λ _. ⌜ now (words .exit) ≡ wordsLeft layPart (flashPart baseRules level (now (image .entry)) index) (now (words .entry)) ⌝ }
+    ensures { λ r. ⌜ r ≡ numberLeft layPart (flashPart (rulesOf (now (image .entry))) level (now (image .entry)) index) (now (words .entry)) ⌝ }
+    ensures { λ _. ⌜ now (words .exit) ≡ wordsLeft layPart (flashPart (rulesOf (now (image .entry))) level (now (image .entry)) index) (now (words .entry)) ⌝ }
 {
     flash_words::part(image, level, index, words)
 }
@@ -71,8 +71,8 @@ pub extern "C" fn kpalumere_find(
     sub: u8,
     words: &mut [u64],
 ) -> u64
-    ensures { λ r. ⌜ r ≡ numberLeft layMatch (flashFind baseRules level (now (image .entry)) class sub) (now (words .entry)) ⌝ }
-    ensures { λ _. ⌜ now (words .exit) ≡ wordsLeft layMatch (flashFind baseRules level (now (image .entry)) class sub) (now (words .entry)) ⌝ }
+    ensures { λ r. ⌜ r ≡ numberLeft layMatch (flashFind (rulesOf (now (image .entry))) level (now (image .entry)) class sub) (now (words .entry)) ⌝ }
+    ensures { λ _. ⌜ now (words .exit) ≡ wordsLeft layMatch (flashFind (rulesOf (now (image .entry))) level (now (image .entry)) class sub) (now (words .entry)) ⌝ }
 {
     flash_words::find(image, level, class, sub, words)
 }
@@ -80,8 +80,8 @@ pub extern "C" fn kpalumere_find(
 // Four words: the place and level of the match's directory, its index, and how many entries were tested; with an 8 one word, how many were tested.
 #[no_mangle]
 pub extern "C" fn kpalumere_find_image(image: &[u8], class: u8, sub: u8, words: &mut [u64]) -> u64
-    ensures { λ r. ⌜ r ≡ numberLeft layImageMatch (findImage baseRules (now (image .entry)) class sub) (now (words .entry)) ⌝ }
-    ensures { λ _. ⌜ now (words .exit) ≡ wordsLeft layImageMatch (findImage baseRules (now (image .entry)) class sub) (now (words .entry)) ⌝ }
+    ensures { λ r. ⌜ r ≡ numberLeft layImageMatch (findImage (rulesOf (now (image .entry))) (now (image .entry)) class sub) (now (words .entry)) ⌝ }
+    ensures { λ _. ⌜ now (words .exit) ≡ wordsLeft layImageMatch (findImage (rulesOf (now (image .entry))) (now (image .entry)) class sub) (now (words .entry)) ⌝ }
 {
     flash_words::find_image(image, class, sub, words)
 }

@@ -1,7 +1,7 @@
 // Views of a flash image's directories. A view crosses the boundary as the lent image and a place.
 ghost use mathlib.Core.Path.{_≡_};
 ghost use Rattle.lent.specs.Lent.{numberLeft, wordsLeft, layNumber};
-ghost use Rattle.efs.specs.Rules.{baseRules};
+ghost use Rattle.efs.specs.Rules.{rulesOf};
 ghost use Rattle.flash.specs.Flash.{flashDirectory};
 ghost use Rattle.place.specs.Place.{entryAt, partAt};
 ghost use Rattle.flash_words.specs.Images.{layEntry, layPart, layPlace};
@@ -10,8 +10,8 @@ ghost use Rattle.version_words.specs.Versions.{versionIn};
 // One word: the place that a view of the directory of a level keeps.
 #[no_mangle]
 pub extern "C" fn kpalumere_view(image: &[u8], level: u32, words: &mut [u64]) -> u64
-    ensures { λ r. ⌜ r ≡ numberLeft layPlace (flashDirectory baseRules level (now (image .entry))) (now (words .entry)) ⌝ }
-    ensures { λ _. ⌜ now (words .exit) ≡ wordsLeft layPlace (flashDirectory baseRules level (now (image .entry))) (now (words .entry)) ⌝ }
+    ensures { λ r. ⌜ r ≡ numberLeft layPlace (flashDirectory (rulesOf (now (image .entry))) level (now (image .entry))) (now (words .entry)) ⌝ }
+    ensures { λ _. ⌜ now (words .exit) ≡ wordsLeft layPlace (flashDirectory (rulesOf (now (image .entry))) level (now (image .entry))) (now (words .entry)) ⌝ }
 {
     view_words::view(image, level, words)
 }
@@ -24,8 +24,8 @@ pub extern "C" fn kpalumere_view_entry(
     i: usize,
     words: &mut [u64],
 ) -> u64
-    ensures { λ r. ⌜ r ≡ numberLeft layEntry (entryAt baseRules (now (image .entry)) place i) (now (words .entry)) ⌝ }
-    ensures { λ _. ⌜ now (words .exit) ≡ wordsLeft layEntry (entryAt baseRules (now (image .entry)) place i) (now (words .entry)) ⌝ }
+    ensures { λ r. ⌜ r ≡ numberLeft layEntry (entryAt (rulesOf (now (image .entry))) (now (image .entry)) place i) (now (words .entry)) ⌝ }
+    ensures { λ _. ⌜ now (words .exit) ≡ wordsLeft layEntry (entryAt (rulesOf (now (image .entry))) (now (image .entry)) place i) (now (words .entry)) ⌝ }
 {
     view_words::entry(image, place, i, words)
 }
@@ -38,8 +38,8 @@ pub extern "C" fn kpalumere_view_part(
     i: usize,
     words: &mut [u64],
 ) -> u64
-    ensures { λ r. ⌜ r ≡ numberLeft layPart (partAt baseRules (now (image .entry)) place i) (now (words .entry)) ⌝ }
-    ensures { λ _. ⌜ now (words .exit) ≡ wordsLeft layPart (partAt baseRules (now (image .entry)) place i) (now (words .entry)) ⌝ }
+    ensures { λ r. ⌜ r ≡ numberLeft layPart (partAt (rulesOf (now (image .entry))) (now (image .entry)) place i) (now (words .entry)) ⌝ }
+    ensures { λ _. ⌜ now (words .exit) ≡ wordsLeft layPart (partAt (rulesOf (now (image .entry))) (now (image .entry)) place i) (now (words .entry)) ⌝ }
 {
     view_words::part(image, place, i, words)
 }
@@ -52,8 +52,8 @@ pub extern "C" fn kpalumere_view_version(
     i: usize,
     words: &mut [u64],
 ) -> u64
-    ensures { λ r. ⌜ r ≡ numberLeft layNumber (versionIn (now (image .entry)) (partAt baseRules (now (image .entry)) place i)) (now (words .entry)) ⌝ }
-    ensures { λ _. ⌜ now (words .exit) ≡ wordsLeft layNumber (versionIn (now (image .entry)) (partAt baseRules (now (image .entry)) place i)) (now (words .entry)) ⌝ }
+    ensures { λ r. ⌜ r ≡ numberLeft layNumber (versionIn (now (image .entry)) (partAt (rulesOf (now (image .entry))) (now (image .entry)) place i)) (now (words .entry)) ⌝ }
+    ensures { λ _. ⌜ now (words .exit) ≡ wordsLeft layNumber (versionIn (now (image .entry)) (partAt (rulesOf (now (image .entry))) (now (image .entry)) place i)) (now (words .entry)) ⌝ }
 {
     version_words::view(image, place, i, words)
 }

@@ -19,7 +19,7 @@ use Rattle.directory.proofs.Accept.{only-good, cookie-acceptance}
 use Rattle.entries.proofs.Parts.{part-inside}
 use Rattle.efs.specs.Efs.{pointerIn}
 use Rattle.window.specs.Inside.{GoodLength}
-use Rattle.efs.specs.Rules.{baseRules}
+use Rattle.efs.specs.Rules.{rulesOf}
 use Rattle.efs.specs.declared.Rules.{Rules}
 use Rattle.flash.specs.Flash.{flashDirectory, flashPart}
 use Rattle.window.specs.Window.{nearestTo, within}
@@ -66,57 +66,81 @@ module _ (r : Rules) (s : List ℕ) where
           let u = then-given (leadsTo (r .window) s (above .place .0) (t .0)) _ (t .2) in
           at 2 (u .0 .0) z (u .2)
 
+-- what is asked of a directory next: its entry i, and where the bytes of that lie
+abbrev entry-next : (i : ℕ) → Rules → List ℕ → Directory → Reply Entry
+entry-next i r s d = entryIn (r .kind) s d i
+
+abbrev part-next : (i : ℕ) → Rules → List ℕ → Directory → Reply Part
+part-next i r s d = partIn (r .kind) (r .window) s d i
+
 pub place-acceptance : PlaceAcceptance
 place-acceptance = record { only = only-place; all = all-place }
 
-module _ (r : Rules) (apart : r .kind .one ≡ r .kind .two → ⊥) (level : ℕ) (s : List ℕ) where
+module _ (rules : List ℕ → Rules) (apart : (image : List ℕ) → rules image .kind .one ≡ rules image .kind .two → ⊥) (level : ℕ) (s : List ℕ) where
+  -- the rules of the image, what the view holds, and the place that it keeps
+  abbrev r : Rules
+  r = rules s
+
+  abbrev held : List ℕ
+  held = viewImage r level s
+
+  abbrev at-kept : ℕ
+  at-kept = viewPlace r level s .0
+
   -- a directory of the level, asked for again at its place
   kept : (d : Directory) → flashDirectory r level s ≡ given d → checkAt r s (d .place .0) ≡ given d
-  kept d e = all-place r s (d .place .0) d apart (good-opened r s level d e)
+  kept d e = all-place r s (d .place .0) d (apart s) (good-opened r s level d e)
 
-  same : (d : Directory) → flashDirectory r level s ≡ given d → checkAt r (viewImage r level s) (viewPlace r level s .0) ≡ given d
-  same d e = rw e (kept d e)
+  -- the directory of a view that holds and keeps what such a reply leaves
+  abbrev checked-by : Reply Directory → Reply Directory
+  checked-by q = checkAt (rules (heldBytes s q)) (heldBytes s q) (heldPlace q .0)
+
+  same : (d : Directory) → flashDirectory r level s ≡ given d → checkAt (rules held) held at-kept ≡ given d
+  same d e = ap checked-by e ∙ kept d e
 
   -- whatever is asked of it next
-  same-next : {B : Type 0} (next : List ℕ → Directory → Reply B) (d : Directory) → flashDirectory r level s ≡ given d →
-      then (checkAt r (viewImage r level s) (viewPlace r level s .0)) (next (viewImage r level s)) ≡ then (flashDirectory r level s) (next s)
-  same-next next d e = rw (e, kept d e)
+  same-next : {B : Type 0} (next : Rules → List ℕ → Directory → Reply B) (d : Directory) → flashDirectory r level s ≡ given d →
+      then (checkAt (rules held) held at-kept) (next (rules held) held) ≡ then (flashDirectory r level s) (next r s)
+  same-next next d e =
+      ap (λ (q : Reply Directory). then (checked-by q) (next (rules (heldBytes s q)) (heldBytes s q))) e
+      ∙ ap (λ (x : Reply Directory). then x (next r s)) (kept d e)
+      ∙ sym (ap (λ (q : Reply Directory). then q (next r s)) e)
 
-  none-15 : (number : ℕ) (carried : Carried) → flashDirectory r level s ≡ refused number carried → checkAt r (viewImage r level s) (viewPlace r level s .0) ≡ refused 15 alone
+  none-15 : (number : ℕ) (carried : Carried) → flashDirectory r level s ≡ refused number carried → checkAt (rules held) held at-kept ≡ refused 15 alone
   unfolding checkAt
   none-15 number carried e = rw e
 
-  next-15 : {B : Type 0} (next : List ℕ → Directory → Reply B) (number : ℕ) (carried : Carried) → flashDirectory r level s ≡ refused number carried →
-      then (checkAt r (viewImage r level s) (viewPlace r level s .0)) (next (viewImage r level s)) ≡ refused 15 alone
-  next-15 next number carried e = ap (λ (x : Reply Directory). then x (next (viewImage r level s))) (none-15 number carried e)
+  next-15 : {B : Type 0} (next : Rules → List ℕ → Directory → Reply B) (number : ℕ) (carried : Carried) → flashDirectory r level s ≡ refused number carried →
+      then (checkAt (rules held) held at-kept) (next (rules held) held) ≡ refused 15 alone
+  next-15 next number carried e = ap (λ (x : Reply Directory). then x (next (rules held) held)) (none-15 number carried e)
 
   -- of an entry's bytes nothing is left where they are refused, by the one number or the other
   module _ (i : ℕ) where
-    same-bytes : (q : Reply Directory) → flashDirectory r level s ≡ q → bytesOf (viewImage r level s) (partThrough r level s i) ≡ bytesOf s (flashPart r level s i)
+    same-bytes : (q : Reply Directory) → flashDirectory r level s ≡ q → bytesOf held (partThrough rules level s i) ≡ bytesOf s (flashPart r level s i)
     unfolding checkAt
-    same-bytes (given d) e = ap (λ (x : Reply Part). bytesOf (viewImage r level s) x) (same-next (λ x d. partIn (r .kind) (r .window) x d i) d e) ∙ rw e
+    same-bytes (given d) e = ap (λ (x : Reply Part). bytesOf held x) (same-next (part-next i) d e) ∙ rw e
     same-bytes (refused number carried) e = rw e
 
-    same-begin : (at : ℕ × ℕ) (q : Reply Directory) → flashDirectory r level s ≡ q → beginOf at (partThrough r level s i) ≡ beginOf at (flashPart r level s i)
+    same-begin : (at : ℕ × ℕ) (q : Reply Directory) → flashDirectory r level s ≡ q → beginOf at (partThrough rules level s i) ≡ beginOf at (flashPart r level s i)
     unfolding checkAt
-    same-begin at (given d) e = ap (beginOf at) (same-next (λ x d. partIn (r .kind) (r .window) x d i) d e)
+    same-begin at (given d) e = ap (beginOf at) (same-next (part-next i) d e)
     same-begin at (refused number carried) e = rw e
 
-through-view : (r : Rules) → (r .kind .one ≡ r .kind .two → ⊥) → SameThroughView r
-through-view r apart = record {
-  directory = same r apart;
-  entry = λ level s d i. same-next r apart level s (λ x d. entryIn (r .kind) x d i) d;
-  part = λ level s d i. same-next r apart level s (λ x d. partIn (r .kind) (r .window) x d i) d;
-  bytes = λ level s i. same-bytes r apart level s i (flashDirectory r level s) refl;
-  begin = λ level s i at. same-begin r apart level s i at (flashDirectory r level s) refl;
+through-view : (rules : List ℕ → Rules) → ((image : List ℕ) → rules image .kind .one ≡ rules image .kind .two → ⊥) → SameThroughView rules
+through-view rules apart = record {
+  directory = same rules apart;
+  entry = λ level s d i. same-next rules apart level s (entry-next i) d;
+  part = λ level s d i. same-next rules apart level s (part-next i) d;
+  bytes = λ level s i. same-bytes rules apart level s i (flashDirectory (rules s) level s) refl;
+  begin = λ level s i at. same-begin rules apart level s i at (flashDirectory (rules s) level s) refl;
   none = λ level s number carried e. (ap (heldBytes s) e, ap (λ (x : Reply Directory). heldPlace x .0) e);
-  directory-15 = none-15 r apart;
-  entry-15 = λ level s i. next-15 r apart level s (λ x d. entryIn (r .kind) x d i);
-  part-15 = λ level s i. next-15 r apart level s (λ x d. partIn (r .kind) (r .window) x d i);
+  directory-15 = none-15 rules apart;
+  entry-15 = λ level s i. next-15 rules apart level s (entry-next i);
+  part-15 = λ level s i. next-15 rules apart level s (part-next i);
 }
 
 pub view-of-level : ViewOfLevel
-view-of-level = record { every = through-view; document = through-view baseRules (λ e. omega arith) }
+view-of-level = record { every = through-view; document = through-view rulesOf (λ image e. omega arith) }
 
 -- what comes after the length
 abbrev checkedAt : Rules → (s : List ℕ) → (place : ℕ) → Reply Directory

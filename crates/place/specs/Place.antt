@@ -46,9 +46,12 @@ viewImage r level image = heldBytes image (flashDirectory r level image)
 abbrev pub viewPlace : Rules → (level : ℕ) → (image : List ℕ) → Offset
 viewPlace r level image = heldPlace (flashDirectory r level image)
 
--- entry i, and where its bytes lie, through a view of the directory of a level
-abbrev pub entryThrough : Rules → (level : ℕ) → (image : List ℕ) → (i : ℕ) → Reply Entry
-entryThrough r level image i = entryAt r (viewImage r level image) (viewPlace r level image .0) i
+-- the directory, entry i, and where its bytes lie, through a view of the directory of a level; each image has its rules, and the view goes by those of what it holds
+abbrev pub checkThrough : (rules : List ℕ → Rules) → (level : ℕ) → (image : List ℕ) → Reply Directory
+checkThrough rules level image = checkAt (rules (viewImage (rules image) level image)) (viewImage (rules image) level image) (viewPlace (rules image) level image .0)
 
-abbrev pub partThrough : Rules → (level : ℕ) → (image : List ℕ) → (i : ℕ) → Reply Part
-partThrough r level image i = partAt r (viewImage r level image) (viewPlace r level image .0) i
+abbrev pub entryThrough : (rules : List ℕ → Rules) → (level : ℕ) → (image : List ℕ) → (i : ℕ) → Reply Entry
+entryThrough rules level image i = entryAt (rules (viewImage (rules image) level image)) (viewImage (rules image) level image) (viewPlace (rules image) level image .0) i
+
+abbrev pub partThrough : (rules : List ℕ → Rules) → (level : ℕ) → (image : List ℕ) → (i : ℕ) → Reply Part
+partThrough rules level image i = partAt (rules (viewImage (rules image) level image)) (viewImage (rules image) level image) (viewPlace (rules image) level image .0) i

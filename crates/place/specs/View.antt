@@ -11,10 +11,10 @@ use Rattle.entries.specs.declared.Entry.{Entry}
 use Rattle.entries.specs.declared.Part.{Part}
 use Rattle.window.specs.Inside.{GoodLength}
 use Rattle.window.specs.Window.{nearestTo}
-use Rattle.efs.specs.Rules.{baseRules}
+use Rattle.efs.specs.Rules.{rulesOf}
 use Rattle.efs.specs.declared.Rules.{Rules}
 use Rattle.flash.specs.Flash.{flashDirectory, flashEntry, flashPart}
-use Rattle.place.specs.Place.{checkAt, entryAt, partAt, viewImage, viewPlace, entryThrough, partThrough}
+use Rattle.place.specs.Place.{checkAt, entryAt, partAt, viewImage, viewPlace, checkThrough, entryThrough, partThrough}
 
 -- the directory d at a place: an image of a length that is allowed, and a good directory there
 pub record GoodPlace (r : Rules) (image : List ℕ) (place : ℕ) (d : Directory) : Type 0 where
@@ -33,26 +33,26 @@ pub record PlaceAcceptance : Type 0 where
   pub only : (r : Rules) (image : List ℕ) (place : ℕ) (d : Directory) → checkAt r image place ≡ given d → GoodPlace r image place d
   pub all : (r : Rules) (image : List ℕ) (place : ℕ) (d : Directory) → (r .kind .one ≡ r .kind .two → ⊥) → GoodPlace r image place d → checkAt r image place ≡ given d
 
--- a view of the directory of a level, for every level, image and index
-pub record SameThroughView (r : Rules) : Type 0 where
+-- a view of the directory of a level, for every level, image and index, where each image has its rules
+pub record SameThroughView (rules : List ℕ → Rules) : Type 0 where
   -- where the directory is given, the view's is the same, and each entry and part is that of the call on the level
-  pub directory : (level : ℕ) (image : List ℕ) (d : Directory) → flashDirectory r level image ≡ given d → checkAt r (viewImage r level image) (viewPlace r level image .0) ≡ given d
-  pub entry : (level : ℕ) (image : List ℕ) (d : Directory) (i : ℕ) → flashDirectory r level image ≡ given d → entryThrough r level image i ≡ flashEntry r level image i
-  pub part : (level : ℕ) (image : List ℕ) (d : Directory) (i : ℕ) → flashDirectory r level image ≡ given d → partThrough r level image i ≡ flashPart r level image i
+  pub directory : (level : ℕ) (image : List ℕ) (d : Directory) → flashDirectory (rules image) level image ≡ given d → checkThrough rules level image ≡ given d
+  pub entry : (level : ℕ) (image : List ℕ) (d : Directory) (i : ℕ) → flashDirectory (rules image) level image ≡ given d → entryThrough rules level image i ≡ flashEntry (rules image) level image i
+  pub part : (level : ℕ) (image : List ℕ) (d : Directory) (i : ℕ) → flashDirectory (rules image) level image ≡ given d → partThrough rules level image i ≡ flashPart (rules image) level image i
   -- given or refused, the bytes are those of the call on the level, and begin where those do
-  pub bytes : (level : ℕ) (image : List ℕ) (i : ℕ) → bytesOf (viewImage r level image) (partThrough r level image i) ≡ bytesOf image (flashPart r level image i)
-  pub begin : (level : ℕ) (image : List ℕ) (i : ℕ) (at : ℕ × ℕ) → beginOf at (partThrough r level image i) ≡ beginOf at (flashPart r level image i)
+  pub bytes : (level : ℕ) (image : List ℕ) (i : ℕ) → bytesOf (viewImage (rules image) level image) (partThrough rules level image i) ≡ bytesOf image (flashPart (rules image) level image i)
+  pub begin : (level : ℕ) (image : List ℕ) (i : ℕ) (at : ℕ × ℕ) → beginOf at (partThrough rules level image i) ≡ beginOf at (flashPart (rules image) level image i)
   -- where the directory is refused, with whatever number, the view holds no bytes and place 0, and each call on it answers 15
-  pub none : (level : ℕ) (image : List ℕ) (number : ℕ) (carried : Carried) → flashDirectory r level image ≡ refused number carried → (viewImage r level image ≡ []) × (viewPlace r level image .0 ≡ 0)
-  pub directory-15 : (level : ℕ) (image : List ℕ) (number : ℕ) (carried : Carried) → flashDirectory r level image ≡ refused number carried →
-      checkAt r (viewImage r level image) (viewPlace r level image .0) ≡ refused 15 alone
-  pub entry-15 : (level : ℕ) (image : List ℕ) (i number : ℕ) (carried : Carried) → flashDirectory r level image ≡ refused number carried → entryThrough r level image i ≡ refused 15 alone
-  pub part-15 : (level : ℕ) (image : List ℕ) (i number : ℕ) (carried : Carried) → flashDirectory r level image ≡ refused number carried → partThrough r level image i ≡ refused 15 alone
+  pub none : (level : ℕ) (image : List ℕ) (number : ℕ) (carried : Carried) → flashDirectory (rules image) level image ≡ refused number carried →
+      (viewImage (rules image) level image ≡ []) × (viewPlace (rules image) level image .0 ≡ 0)
+  pub directory-15 : (level : ℕ) (image : List ℕ) (number : ℕ) (carried : Carried) → flashDirectory (rules image) level image ≡ refused number carried → checkThrough rules level image ≡ refused 15 alone
+  pub entry-15 : (level : ℕ) (image : List ℕ) (i number : ℕ) (carried : Carried) → flashDirectory (rules image) level image ≡ refused number carried → entryThrough rules level image i ≡ refused 15 alone
+  pub part-15 : (level : ℕ) (image : List ℕ) (i number : ℕ) (carried : Carried) → flashDirectory (rules image) level image ≡ refused number carried → partThrough rules level image i ≡ refused 15 alone
 
--- so it is by all rules of a kind whose cookies differ, and by document 01's
+-- so it is by all rules of kinds whose cookies differ, and by those of every image
 pub record ViewOfLevel : Type 0 where
-  pub every : (r : Rules) → (r .kind .one ≡ r .kind .two → ⊥) → SameThroughView r
-  pub document : SameThroughView baseRules
+  pub every : (rules : List ℕ → Rules) → ((image : List ℕ) → rules image .kind .one ≡ rules image .kind .two → ⊥) → SameThroughView rules
+  pub document : SameThroughView rulesOf
 
 -- the bytes of an entry are a part of the image, of the entry's size, and no copy: they begin in memory where that part of the image does
 pub record PartOfImage : Type 0 where

@@ -4,7 +4,7 @@ ghost use mathlib.Core.Bool.{true};
 ghost use Rattle.reply.specs.Reply.{then};
 ghost use Rattle.directory.specs.Repeat.{toldRepeat};
 ghost use Rattle.window.specs.Length.{lengthAllowed, sized};
-ghost use Rattle.efs.specs.Rules.{baseRules};
+ghost use Rattle.efs.specs.Rules.{rulesOf};
 ghost use Rattle.repeats.specs.Repeats.{repeatsOne, repeatsLed, repeatsBelow, repeatsTwo, flashRepeats};
 use directory::Directory;
 use directory::DirectoryAnswer;
@@ -15,11 +15,10 @@ use entries::Entry;
 use entries::EntryAnswer;
 use reply::Refusal;
 use window::OffsetAnswer;
-use window::Physical;
 
 // Those of level one.
 fn repeats_one(image: &[u8]) -> RepeatAnswer
-    ensures { λ r. ⌜ toldRepeat r ≡ repeatsOne baseRules (now (image .entry)) ⌝ }
+    ensures { λ r. ⌜ toldRepeat r ≡ repeatsOne (rulesOf (now (image .entry))) (now (image .entry)) ⌝ }
 {
     match efs::flash_pointer(image) {
         PointerAnswer::Given(p) => directory::repeated_at(
@@ -35,9 +34,9 @@ fn repeats_one(image: &[u8]) -> RepeatAnswer
 
 // Those of the level two that an entry of a directory leads to.
 fn repeats_led(image: &[u8], d: Directory, e: Entry) -> RepeatAnswer
-    ensures { λ r. ⌜ toldRepeat r ≡ sized (now (image .entry)) (repeatsLed baseRules (now (image .entry)) d e) ⌝ }
+    ensures { λ r. ⌜ toldRepeat r ≡ sized (now (image .entry)) (repeatsLed (rulesOf (now (image .entry))) (now (image .entry)) d e) ⌝ }
 {
-    match entries::leads_to(image, Physical::WINDOW, d.place(), e) {
+    match entries::leads_to(image, image.len(), d.place(), e) {
         OffsetAnswer::Given(place) => directory::repeated_at(
             image,
             directory::psp_kind(),
@@ -52,7 +51,7 @@ fn repeats_led(image: &[u8], d: Directory, e: Entry) -> RepeatAnswer
 // Those of level two, below a directory of level one, in an image of a length that is allowed.
 fn repeats_below(image: &[u8], d: Directory) -> RepeatAnswer
     requires { ⌜ lengthAllowed (now image) ≡ true ⌝ }
-    ensures { λ r. ⌜ toldRepeat r ≡ repeatsBelow baseRules (now (image .entry)) d ⌝ }
+    ensures { λ r. ⌜ toldRepeat r ≡ repeatsBelow (rulesOf (now (image .entry))) (now (image .entry)) d ⌝ }
 {
     match entries::lead_in(image, directory::psp_kind(), d) {
         EntryAnswer::Given(e) => repeats_led(image, d, e),
@@ -62,7 +61,7 @@ fn repeats_below(image: &[u8], d: Directory) -> RepeatAnswer
 
 // Those of level two.
 fn repeats_two(image: &[u8]) -> RepeatAnswer
-    ensures { λ r. ⌜ toldRepeat r ≡ repeatsTwo baseRules (now (image .entry)) ⌝ }
+    ensures { λ r. ⌜ toldRepeat r ≡ repeatsTwo (rulesOf (now (image .entry))) (now (image .entry)) ⌝ }
 {
     match flash::directory(image, 1) {
         DirectoryAnswer::Given(d) => repeats_below(image, d),
@@ -72,7 +71,7 @@ fn repeats_two(image: &[u8]) -> RepeatAnswer
 
 // Those of a level number.
 pub fn repeated(image: &[u8], level: u32) -> RepeatAnswer
-    ensures { λ r. ⌜ toldRepeat r ≡ flashRepeats baseRules level (now (image .entry)) ⌝ }
+    ensures { λ r. ⌜ toldRepeat r ≡ flashRepeats (rulesOf (now (image .entry))) level (now (image .entry)) ⌝ }
 {
     if level < 1 {
         return RepeatAnswer::Refused(Refusal::RANGE);

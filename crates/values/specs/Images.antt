@@ -1,10 +1,10 @@
 -- Flash images and directories at which two neighbouring checks fail, or one alone, with the number that is due: the rows of what is stated in Orders.antt. Assumes nothing: these are definitions.
 use Prim.Native.Nat.{ℕ, _+_, _-_, _^_}
 use mathlib.Core.List.{List, [], _∷_, _++_}
-use lib.ListN.{replicate, take}
+use lib.ListN.{length, replicate, take}
 use Rattle.le.specs.Le.{leBytes}
 use Rattle.fletcher.specs.Fletcher.{fletcherOf}
-use Rattle.window.specs.Window.{baseWindow}
+use Rattle.window.specs.Window.{windowStart}
 use Rattle.directory.specs.Directory.{pspKind}
 use Rattle.efs.specs.declared.Rules.{Rules}
 use Rattle.build.specs.declared.Fields.{Fields}
@@ -71,9 +71,9 @@ limitRows =
 abbrev pub efs : (early late : ℕ) → List ℕ
 efs early late = 0xAA ∷ 0x55 ∷ 0xAA ∷ 0x55 ∷ (zeros 12 ++ (leBytes 4 early ++ (leBytes 4 late ++ zeros 12)))
 
--- document 01's rules but for the candidates: the image's first byte alone, so that images can be small
-abbrev pub atTheStart : Rules
-atTheStart = record { kind = pspKind; limit = 512; window = baseWindow; candidates = 0xFF00_0000 ∷ [] }
+-- the rules of an image but for the candidates: its first byte alone, so that images can be small
+abbrev pub atTheStart : (image : List ℕ) → Rules
+atTheStart image = record { kind = pspKind; limit = 512; window = length image; candidates = windowStart (length image) ∷ [] }
 
 abbrev pub fields : (class mode location size : ℕ) → Fields
 fields class mode location size = record { class = class; subprogram = 0; size = size; location = location; mode = mode }
@@ -91,23 +91,34 @@ flashRows =
     ∷ row (1, zeros 36) 2  -- 2 before 8
     ∷ row (1, take 35 (efs 0 36)) 2  -- and before 7
     ∷ row (1, efs 0xFFFF_FFFF 0) 8
-    ∷ row (1, efs 36 0x0100_0000) 7  -- the pointer at 0x14 decides, though it is bad
-    ∷ row (1, efs 36 0xFEFF_FFFF) 7
-    ∷ row (1, efs 0 37) 7  -- 7 before 1
-    ∷ row (1, efs 0 36) 1
-    ∷ row (1, efs 36 0xFFFF_FFFF) 1
-    ∷ row (1, efs 0 0xFF00_0000) 2  -- the EFS is no directory
+    ∷ row (1, efs 35 0x0100_0000) 7  -- the pointer at 0x14 decides, though it is bad
+    ∷ row (1, efs 35 0xFF00_0000) 7
+    ∷ row (1, efs 35 0xFFFF_FFDB) 7  -- just below the window of 36 bytes
+    ∷ row (1, efs 0 0xFFFF_FFDC) 2  -- the EFS is no directory
+    ∷ row (1, efs 0 0xFFFF_FFFE) 1
+    ∷ row (1, efs 0 36) 7  -- 7 before 1
+    ∷ row (1, efs 0 35) 1
+    ∷ row (1, efs 35 0xFFFF_FFFF) 1
     ∷ row (1, efs 0 36 ++ directoryWith one 0 0 0 []) 0
+    ∷ row (1, efs 0 0xFFFF_FFF0 ++ directoryWith one 0 0 0 []) 0
     ∷ row (2, efs 0 36 ++ directoryWith one 1 0 0 []) 4  -- level one's numbers before 8
     ∷ row (2, efs 0 36 ++ directoryWith one 0 0 0 []) 8
     ∷ row (2, leading 3 69) 16  -- 16 before 7
     ∷ row (2, leading 1 69) 7  -- 7 before 1
     ∷ row (2, leading 1 68) 1
+    ∷ row (2, leading 0 0xFFFF_FFBB) 7  -- just below the window of 68 bytes
+    ∷ row (2, leading 0 0xFFFF_FFBC) 2
+    ∷ row (2, leading 0 0xFFFF_FFFF) 1
+    ∷ row (2, leading 0 0x1_0000_0000) 7
     ∷ row (2, leading 2 0) 2  -- it leads to level one
     ∷ row (2, leading 2 32 ++ directoryWith two 0 0 0 []) 0
+    ∷ row (2, leading 0 0xFFFF_FFF0 ++ directoryWith two 0 0 0 []) 0
     ∷ []
 
 -- ---- where the bytes of an entry lie: an index, and an entry that stands twice in 48 bytes, as the only one of a directory and behind it
+abbrev pub twice : Fields → List ℕ
+twice f = zeros 16 ++ (entryBytes f ++ entryBytes f)
+
 abbrev pub partRows : List (Row (ℕ × Fields))
 partRows =
     row (1, fields 0x0B 3 49 0) 8  -- 8 before 17
@@ -117,8 +128,11 @@ partRows =
     ∷ row (0, fields 1 1 48 0) 0
     ∷ row (0, fields 1 1 47 1) 0
     ∷ row (0, fields 1 1 47 2) 7
-    ∷ row (0, fields 1 0 0xFEFF_FFFF 0) 7
-    ∷ row (0, fields 1 0 0xFF00_0030 0) 0
+    ∷ row (0, fields 1 0 0xFF00_0000 0) 7
+    ∷ row (0, fields 1 0 0xFFFF_FFCF 0) 7  -- just below the window of 48 bytes
+    ∷ row (0, fields 1 0 0xFFFF_FFD0 48) 0
+    ∷ row (0, fields 1 0 0xFFFF_FFD0 49) 7
+    ∷ row (0, fields 1 0 0xFFFF_FFFF 1) 0
     ∷ row (0, fields 1 0 0x1_0000_0000 0) 7
     ∷ row (0, fields 1 2 49 0) 7
     ∷ []

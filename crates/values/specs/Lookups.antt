@@ -40,8 +40,8 @@ findRows =
     ∷ sought (1, [], 1) (refused 15 alone)  -- 15 before 2
     ∷ sought (1, zeros 36, 1) (refused 2 alone)
     ∷ sought (1, efs 0xFFFF_FFFF 0, 1) (refused 8 (tested 0))  -- no pointer
-    ∷ sought (1, efs 36 0x0100_0000, 1) (refused 7 alone)
-    ∷ sought (1, efs 0 36, 1) (refused 1 alone)  -- level one's numbers
+    ∷ sought (1, efs 35 0x0100_0000, 1) (refused 7 alone)
+    ∷ sought (1, efs 0 35, 1) (refused 1 alone)  -- level one's numbers
     ∷ sought (1, oneWith 2 (plain 1 ++ entryWith 2 1), 1) (refused 5 alone)  -- also for a fault behind the match
     ∷ sought (1, oneWith 2 (plain 1 ++ plain 2), 1) (inLevel 0 1)
     ∷ sought (1, oneWith 2 (plain 1 ++ plain 2), 2) (inLevel 1 2)
@@ -70,15 +70,15 @@ findImageRows =
     sought ([], 1, 0) (refused 15 alone)  -- 15 before 2
     ∷ sought (zeros 36, 1, 0) (refused 2 alone)
     ∷ sought (efs 0xFFFF_FFFF 0, 1, 0) (refused 8 (tested 0))  -- no pointer
-    ∷ sought (efs 36 0x0100_0000, 1, 0) (refused 7 alone)
-    ∷ sought (efs 0 36, 1, 0) (refused 1 alone)  -- level one's numbers
+    ∷ sought (efs 35 0x0100_0000, 1, 0) (refused 7 alone)
+    ∷ sought (efs 0 35, 1, 0) (refused 1 alone)  -- level one's numbers
     ∷ sought (oneWith 2 (plain 1 ++ entryWith 2 1), 1, 0) (refused 5 alone)  -- also for a fault behind the match
     ∷ sought (oneWith 2 (plain 1 ++ plain 2), 2, 0) (inImage 36 1 1 2)
     ∷ sought (oneWith 2 (plain 1 ++ plain 2), 2, 1) (refused 8 (tested 2))
     -- a lead at fault: before the match it is the answer, behind the match it is not met
     ∷ sought (leadThenOne 3 85, 1, 0) (refused 16 alone)  -- 16 before 7
     ∷ sought (leadThenOne 1 85, 1, 0) (refused 7 alone)  -- 7 before 1
-    ∷ sought (leadThenOne 0 0xFEFF_FFFF, 1, 0) (refused 7 alone)
+    ∷ sought (leadThenOne 0 0xFFFF_FFAB, 1, 0) (refused 7 alone)  -- just below the window of 84 bytes
     ∷ sought (leadThenOne 1 84, 1, 0) (refused 1 alone)  -- level two's numbers
     ∷ sought (leadThenOne 2 0, 1, 0) (refused 2 alone)
     ∷ sought (leadThenOne 2 48 ++ directoryWith two 1 0 0 [], 1, 0) (refused 4 alone)

@@ -1,16 +1,15 @@
 -- Each order of checks gives the number of the first that fails, stated for rows of inputs: no two neighbours have exchanged places or numbers. The proof stands in proofs/Orders.antt.
 use Prim.Native.Nat.{ℕ}
 use mathlib.Core.Path.{_≡_}
-use mathlib.Core.List.{List, map, _++_}
-use lib.ListN.{replicate}
+use mathlib.Core.List.{List, map}
+use lib.ListN.{length, replicate}
 use Rattle.lent.specs.Lent.{numberOf}
-use Rattle.window.specs.Window.{baseWindow}
 use Rattle.directory.specs.Directory.{pspKind, directoryOf, directoryAt}
 use Rattle.entries.specs.Part.{partIn}
 use Rattle.flash.specs.Flash.{flashDirectory, flashFind}
 use Rattle.walk.specs.Walk.{findImage}
 use Rattle.place.specs.Place.{checkAt}
-use Rattle.build.specs.Write.{entryBytes, startOf, extendOf, roomFor}
+use Rattle.build.specs.Write.{startOf, extendOf, roomFor}
 use Rattle.aspt.specs.Calls.{readOf}
 use Rattle.aspt_build.specs.Write.{writeOf}
 use Rattle.guids.specs.Table.{tableOf}
@@ -18,7 +17,7 @@ use Rattle.guids_build.specs.Write.{startOf as guidStartOf, roomFor as guidRoom
 use Rattle.firmware.specs.Word.{statusIn}
 use Rattle.firmware.specs.Rules.{runOf}
 use Rattle.mailbox_calls.specs.Calls.{postOf, loadOf, turnOf, unloadOf, takeOf}
-use Rattle.values.specs.Images.{Row, zeros, atTheStart, directoryRows, limitRows, flashRows, partRows, placeRows, startRows, extendRows, roomRows}
+use Rattle.values.specs.Images.{Row, zeros, atTheStart, directoryRows, limitRows, flashRows, twice, partRows, placeRows, startRows, extendRows, roomRows}
 use Rattle.values.specs.Lookups.{Sought, findRows, findImageRows}
 use Rattle.values.specs.Tables.{readRows, writeRows, guidRows, guidStartRows, guidRoomRows}
 use Rattle.values.specs.Mailboxes.{consistentRows, postRows, takeRows, stepNumber, loadRows, turnRows, unloadRows, statusRows}
@@ -34,11 +33,11 @@ Answered answer rows = map (λ r. answer (r .input)) rows ≡ map (λ r. r .due)
 pub record Orders : Type 0 where
   pub directory : Right (λ s. numberOf (directoryAt pspKind 512 2 s 0)) directoryRows
   pub limit : Right (λ s. numberOf (directoryAt pspKind 1 2 s 0)) limitRows
-  pub flash : Right (λ a. numberOf (flashDirectory atTheStart (a .0) (a .1))) flashRows
-  pub find : Answered (λ a. flashFind atTheStart (a .0) (a .1) (a .2) 0) findRows
-  pub find-image : Answered (λ a. findImage atTheStart (a .0) (a .1) (a .2)) findImageRows
-  pub part : Right (λ a. numberOf (partIn pspKind baseWindow (zeros 16 ++ (entryBytes (a .1) ++ entryBytes (a .1))) (directoryOf 0 1 1) (a .0))) partRows
-  pub place : Right (λ a. numberOf (checkAt atTheStart (a .0) (a .1))) placeRows
+  pub flash : Right (λ a. numberOf (flashDirectory (atTheStart (a .1)) (a .0) (a .1))) flashRows
+  pub find : Answered (λ a. flashFind (atTheStart (a .1)) (a .0) (a .1) (a .2) 0) findRows
+  pub find-image : Answered (λ a. findImage (atTheStart (a .0)) (a .0) (a .1) (a .2)) findImageRows
+  pub part : Right (λ a. numberOf (partIn pspKind (length (twice (a .1))) (twice (a .1)) (directoryOf 0 1 1) (a .0))) partRows
+  pub place : Right (λ a. numberOf (checkAt (atTheStart (a .0)) (a .0) (a .1))) placeRows
   pub start : Right (λ a. numberOf (startOf (a .0) (a .1))) startRows
   pub extend : Right (λ a. numberOf (extendOf (a .0) (a .1))) extendRows
   pub room : Right (λ a. numberOf (roomFor (a .0) (zeros (a .1)) (directoryOf 0 2 (a .2)))) roomRows

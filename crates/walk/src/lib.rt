@@ -4,7 +4,7 @@ ghost use Prim.Native.Nat.{_+_, _-_, _<_, _≤_};
 ghost use lib.ListN.{length};
 ghost use Rattle.reply.specs.Reply.{refused, alone};
 ghost use Rattle.window.specs.Length.{longest};
-ghost use Rattle.efs.specs.Rules.{baseRules};
+ghost use Rattle.efs.specs.Rules.{rulesOf};
 ghost use Rattle.flash.specs.Flash.{levelTwoAt, fromLookup};
 ghost use Rattle.walk.specs.Walk.{walkFrom, walkOf, firstIn, findImage, toldImageMatch};
 ghost use Rattle.walk.specs.Probe.{entered, probed, probeOf, isPass, Small};
@@ -191,12 +191,12 @@ fn no_walk(why: Refusal) -> ImageMatchAnswer
 
 // The lookup by type and subprogram in a whole flash image.
 pub fn find_image(image: &[u8], class: u8, sub: u8) -> ImageMatchAnswer
-    ensures { λ r. ⌜ toldImageMatch r ≡ findImage baseRules (now (image .entry)) class sub ⌝ }
+    ensures { λ r. ⌜ toldImageMatch r ≡ findImage (rulesOf (now (image .entry))) (now (image .entry)) class sub ⌝ }
 {
     match flash::directory(image, 1) {
         DirectoryAnswer::Given(d) => {
             let by = Search {
-                rules: efs::base_rules(),
+                rules: efs::rules_of(image),
                 class: class,
                 sub: sub,
             };

@@ -14,11 +14,11 @@ use Rattle.window.specs.declared.OffsetAnswer.the-variants as offsetAnsw
 abbrev pub fourGiB : ℕ
 fourGiB = 0x1_0000_0000
 
--- where a window of so many bytes begins
+-- where a window of so many bytes begins; an image is shown through a window of its own length
 abbrev pub windowStart : (window : ℕ) → ℕ
 windowStart window = fourGiB - window
 
--- document 01's window: the 16,777,216 bytes below 4 GiB, 0xFF000000 to 0xFFFFFFFF
+-- the window of every image before request 02: the 16,777,216 bytes below 4 GiB, 0xFF000000 to 0xFFFFFFFF
 abbrev pub baseWindow : ℕ
 baseWindow = 16_777_216
 

@@ -57,19 +57,20 @@ pub fn length_allowed(image: &[u8]) -> bool
     image.len() <= Offset::LONGEST
 }
 
-// Where a window of so many bytes begins: each ends at 4 GiB.
-fn window_start(window: u32) -> u64
+// Where a window of so many bytes begins: each ends at 4 GiB, and none begins below 0.
+fn window_start(window: usize) -> u64
     ensures { λ r. ⌜ r ≡ windowStart window ⌝ }
 {
-    0x1_0000_0000 - (window as u64)
+    let bytes = window as u64;
+    if 0x1_0000_0000 < bytes {
+        return 0;
+    }
+    0x1_0000_0000 - bytes
 }
 
 impl Physical {
-    // The bytes below 4 GiB that document 01's window shows.
-    pub const WINDOW: u32 = 16_777_216;
-
     // The flash offset that a window of so many bytes below 4 GiB gives this address.
-    pub fn offset(self, window: u32) -> OffsetAnswer
+    pub fn offset(self, window: usize) -> OffsetAnswer
         ensures { λ r. ⌜ toldOffset r ≡ offsetIn window (self .0) ⌝ }
     {
         let a = self.0;

@@ -19,7 +19,7 @@ const fn call(name: &'static str, given: &'static [&'static str], refusals: &'st
     }
 }
 
-/// Every call, in the order of docs/ASK.md, with the numbers that document 01 and request 07 have for it.
+/// Every call, in the order of docs/ASK.md, with the numbers that document 01 and requests 02 and 07 have for it.
 #[rustfmt::skip]
 pub const CALLS: &[Call] = &[
     call("buffer", &["ok"], &[]),

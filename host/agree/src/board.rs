@@ -2,11 +2,14 @@
 
 use crate::subjects::directory::{Directory, Entry};
 
-/// Where the EFS lies, where the directories begin, and how long the image is.
+/// Where the EFS lies, where the directories begin, and how long the image is: so that the first EFS candidate comes to lie there.
 pub const EFS: usize = 0x2_0000;
 pub const LEVEL_ONE: usize = 0x2_1000;
 pub const LEVEL_TWO: usize = 0x2_8000;
-pub const LENGTH: usize = 0x3_0000;
+pub const LENGTH: usize = 0x8_0000;
+
+/// The physical address of the image's first byte: the flash ends at 4 GiB.
+pub const WINDOW: u64 = 0x1_0000_0000 - LENGTH as u64;
 
 /// An entry that keeps to the rules.
 pub fn entry(class: u8, subprogram: u8, size: u32, location: u64, mode: u64) -> Entry {
@@ -35,7 +38,7 @@ impl Board {
             one: Directory::of(
                 1,
                 vec![
-                    entry(0x00, 0, 0x240, 0xFF02_2000, 0),
+                    entry(0x00, 0, 0x240, WINDOW + 0x2_2000, 0),
                     entry(0x03, 0, 0x800, 0x2_3000, 1),
                     entry(0x0B, 0, 0, 0x1_0000_0001, 0),
                     entry(0x40, 0, 0x400, LEVEL_TWO as u64, 1),
@@ -47,12 +50,12 @@ impl Board {
                 vec![
                     entry(0x01, 0, 0xC00, 0x1000, 2),
                     entry(0x08, 1, 0x1000, 0x2_D000, 1),
-                    entry(0x5A, 0, 0x101, 0x2_FF00, 1),
-                    entry(0x13, 0, 0, 0x3_0000, 1),
+                    entry(0x5A, 0, 0x101, LENGTH as u64 - 0x100, 1),
+                    entry(0x13, 0, 0, LENGTH as u64, 1),
                 ],
             ),
             early: 0,
-            late: 0xFF00_0000 + LEVEL_ONE as u32,
+            late: (WINDOW + LEVEL_ONE as u64) as u32,
         }
     }
 

@@ -2,7 +2,7 @@
 //! that repeat, a firmware binary's version, that of an entry, and the entry at an index of a GUID table), set side by side: the
 //! library by its bindings, and the second program.
 
-use agree::board::{entry, Board, LENGTH, LEVEL_ONE, LEVEL_TWO};
+use agree::board::{entry, Board, LENGTH, LEVEL_ONE, LEVEL_TWO, WINDOW};
 use agree::cases;
 use agree::random::Random;
 use agree::subjects::directory::{tell_apart, Directory, Entry, CLASSES, LEAD, SUBPROGRAMS};
@@ -17,9 +17,9 @@ const TRIALS: usize = 5_000;
 const LONGEST: usize = 16_777_216;
 /// Where a board has a firmware binary: behind its directories.
 const BINARY: usize = 0x2_C000;
-/// Where an EFS may be.
+/// Where an EFS may be: how far from the end of an image.
 const CANDIDATES: [usize; 6] = [
-    0xFA_0000, 0xF2_0000, 0xE2_0000, 0xC2_0000, 0x82_0000, 0x02_0000,
+    0x06_0000, 0x0E_0000, 0x1E_0000, 0x3E_0000, 0x7E_0000, 0xFE_0000,
 ];
 
 /// What a call answers, in numbers alone, so that answers of both programs can be compared.
@@ -164,31 +164,33 @@ fn seed_for(what: &str) -> u64 {
     seed
 }
 
-/// A pointer that is absent, at a limit of what a pointer may be or of where one may lead, or any.
+/// A pointer that is absent, at a limit of what is a flash offset or physical in an image of that length or in the longest, or any.
 fn pointer_value(random: &mut Random, length: usize) -> u32 {
-    let near_the_end = (length as u32 + 1).saturating_sub(random.below(3) as u32);
     let any = random.number() as u32;
+    let length = random.one_of(&[length, LONGEST]) as u32;
+    let first_physical = length.wrapping_neg();
     random.one_of(&[
         0,
         0xFFFF_FFFF,
         1,
-        0x00FF_FFFF,
-        0x0100_0000,
-        0xFEFF_FFFF,
-        0xFF00_0000,
+        length.wrapping_sub(1),
+        length,
+        length + 1,
+        first_physical.wrapping_sub(1),
+        first_physical,
+        first_physical.wrapping_add(1),
         0xFFFF_FFFE,
-        near_the_end,
-        near_the_end.wrapping_add(0xFF00_0000),
         any,
     ])
 }
 
-/// An image's length: at a limit, or about the end of an EFS candidate.
+/// An image's length: at a limit, of a board, any, or about where an EFS candidate comes into the window.
 fn image_length(random: &mut Random) -> usize {
     match random.below(8) {
         0 => random.one_of(&[0, 1, LONGEST + 1]),
-        1..=3 => LONGEST,
-        _ => random.one_of(&CANDIDATES) + 0x24 + 2 - random.below(4) as usize,
+        1 | 2 => random.one_of(&[LONGEST / 4, LONGEST / 2, LONGEST]),
+        3 => 1 + random.below(LONGEST as u64) as usize,
+        _ => random.one_of(&CANDIDATES) + 1 - random.below(3) as usize,
     }
 }
 
@@ -197,11 +199,20 @@ fn both_tell_the_same_efs_and_pointer() {
     let seed = seed_for("the EFS and the pointer");
     let mut random = Random::from_seed(seed);
     let (mut efs, mut pointer) = (Seen::default(), Seen::default());
-    // One buffer for all trials: an image is its first bytes, and nothing but EFS candidates is ever written.
+    // One buffer for all trials: an image is its last bytes, so that each candidate is in one place for all. What an earlier trial left
+    // elsewhere is no EFS.
     let mut buffer = vec![0; LONGEST + 1];
     for trial in 0..TRIALS {
         let length = image_length(&mut random);
-        for at in CANDIDATES {
+        let first = buffer.len() - length;
+        // Where a window would have one that is a byte or more too long.
+        let astray = random.one_of(&CANDIDATES);
+        let astray = first + random.one_of(&[0, LONGEST - astray]);
+        for at in CANDIDATES
+            .map(|from_end| LONGEST + 1 - from_end)
+            .into_iter()
+            .chain([astray])
+        {
             let mut bytes = random.bytes(0x24);
             if !random.once_in(3) {
                 bytes[..4].copy_from_slice(&[0xAA, 0x55, 0xAA, 0x55]);
@@ -214,9 +225,11 @@ fn both_tell_the_same_efs_and_pointer() {
                 let value = pointer_value(&mut random, length);
                 bytes[field..field + 4].copy_from_slice(&value.to_le_bytes());
             }
-            buffer[at..at + 0x24].copy_from_slice(&bytes);
+            if let Some(place) = buffer.get_mut(at..at + 0x24) {
+                place.copy_from_slice(&bytes);
+            }
         }
-        let image = &buffer[..length];
+        let image = &buffer[first..];
         let whence = format!("seed {seed}, trial {trial}, an image of {length} bytes");
         efs.note(efs_by_both(image), &whence);
         pointer.note(pointer_by_both(image), &whence);
@@ -256,7 +269,7 @@ fn entry_with_a_binary(random: &mut Random) -> Entry {
     let place = BINARY as u64;
     let location = match mode {
         _ if random.once_in(8) => LENGTH as u64,
-        0 => 0xFF00_0000 + place,
+        0 => WINDOW + place,
         1 => place,
         _ => place - random.one_of(&[LEVEL_ONE, LEVEL_TWO]) as u64,
     };
@@ -585,7 +598,7 @@ fn both_name_the_same_entries_of_random_boards() {
         board.one = random_directory(&mut random, 1);
         board.two = random_directory(&mut random, 2);
         if random.once_in(40) {
-            board.late = pointer_value(&mut random, agree::board::LENGTH);
+            board.late = pointer_value(&mut random, LENGTH);
         }
         let image = board.bytes();
         for level in [1, 2] {
@@ -618,8 +631,9 @@ fn both_name_the_same_entries_of_every_recorded_image() {
             let line = line.split('#').next().unwrap_or_default();
             let words: Vec<&str> = line.split_whitespace().collect();
             match words.as_slice() {
-                ["buffer", name, length] => {
-                    buffers.insert(name.to_string(), vec![0; number_of(length)]);
+                ["buffer", name, length, byte @ ..] => {
+                    let byte = byte.first().map_or(0, |byte| number_of(byte) as u8);
+                    buffers.insert(name.to_string(), vec![byte; number_of(length)]);
                 }
                 ["patch", name, place, digits] => {
                     let place = number_of(place);

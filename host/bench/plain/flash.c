@@ -5,8 +5,6 @@
 
 enum {
     LONGEST_IMAGE = 16777216,
-    WINDOW_BYTES = 16777216,
-    EFS_BYTES = 0x24,
     HEADER_BYTES = 16,
     ENTRY_BYTES = 16,
     MOST_ENTRIES = 512,
@@ -16,8 +14,7 @@ enum {
     TYPE_VALUE = 0x0B
 };
 
-static const uint64_t window_first = 0xFF000000;
-static const uint64_t window_last = 0xFFFFFFFF;
+static const uint64_t window_end = UINT64_C(1) << 32;
 static const uint64_t location_mask = (UINT64_C(1) << 62) - 1;
 
 /* 359 words keep both sums below 2^32 where they start below 65,535. */
@@ -153,21 +150,23 @@ static const uint8_t *entry_bytes(const uint8_t *image, const struct plain_direc
     return image + directory->place + HEADER_BYTES + index * ENTRY_BYTES;
 }
 
-/* The flash offset of a physical address. */
-static int offset_of(uint64_t address, uint64_t *offset)
+/* The flash offset of a physical address, in an image of a good length: the window has as many bytes, and ends at 4 GiB. */
+static int offset_of(uint64_t address, size_t length, uint64_t *offset)
 {
-    if (address < window_first || address > window_last)
+    uint64_t window_first = window_end - length;
+
+    if (address < window_first || address >= window_end)
         return PLAIN_OUTSIDE;
     *offset = address - window_first;
     return PLAIN_OK;
 }
 
 /* Where an entry of the directory at `place` leads. No sum passes 2^64: a location has 62 bits. */
-static int follow(const struct plain_entry *entry, uint64_t place, uint64_t *offset)
+static int follow(const struct plain_entry *entry, size_t length, uint64_t place, uint64_t *offset)
 {
     switch (entry->mode) {
     case 0:
-        return offset_of(entry->location, offset);
+        return offset_of(entry->location, length, offset);
     case 1:
         *offset = entry->location;
         return PLAIN_OK;
@@ -182,16 +181,18 @@ static int follow(const struct plain_entry *entry, uint64_t place, uint64_t *off
 /* Where level one begins, as the first EFS tells. */
 static int find_root(const uint8_t *image, size_t length, uint64_t *root)
 {
-    static const uint32_t candidates[] = {0xFA0000, 0xF20000, 0xE20000, 0xC20000, 0x820000, 0x020000};
+    static const uint32_t candidates[] = {0xFFFA0000, 0xFFF20000, 0xFFE20000, 0xFFC20000, 0xFF820000, 0xFF020000};
     static const uint8_t signature[4] = {0xAA, 0x55, 0xAA, 0x55};
 
     for (size_t i = 0; i < sizeof candidates / sizeof candidates[0]; i++) {
         const uint8_t *efs;
+        uint64_t place;
         uint32_t pointer;
 
-        if (length < candidates[i] + EFS_BYTES)
+        if (offset_of(candidates[i], length, &place) != PLAIN_OK)
             continue;
-        efs = image + candidates[i];
+        /* All of it is there: no candidate lies near the window's end. */
+        efs = image + place;
         if (memcmp(efs, signature, sizeof signature) != 0)
             continue;
         pointer = get32(efs + 0x14);
@@ -199,13 +200,11 @@ static int find_root(const uint8_t *image, size_t length, uint64_t *root)
             pointer = get32(efs + 0x10);
         if (pointer == 0 || pointer == 0xFFFFFFFF)
             return PLAIN_ABSENT;
-        if (pointer >= window_first)
-            *root = pointer - window_first;
-        else if (pointer < WINDOW_BYTES)
+        if (pointer < length) {
             *root = pointer;
-        else
-            return PLAIN_OUTSIDE;
-        return *root > length ? PLAIN_OUTSIDE : PLAIN_OK;
+            return PLAIN_OK;
+        }
+        return offset_of(pointer, length, root);
     }
     return PLAIN_SIGNATURE;
 }
@@ -228,7 +227,7 @@ static int level_two(const uint8_t *image, size_t length, const struct plain_dir
                      struct plain_directory *found)
 {
     uint64_t place;
-    int answer = follow(entry, one->place, &place);
+    int answer = follow(entry, length, one->place, &place);
 
     if (answer != PLAIN_OK)
         return answer;
@@ -282,7 +281,7 @@ int plain_part_of(const uint8_t *image, size_t length, const struct plain_direct
         return answer;
     if (entry.type == TYPE_VALUE)
         return PLAIN_VALUE;
-    answer = follow(&entry, directory->place, &place);
+    answer = follow(&entry, length, directory->place, &place);
     if (answer != PLAIN_OK)
         return answer;
     if (place > length || entry.size > length - place)

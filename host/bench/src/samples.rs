@@ -8,14 +8,27 @@ pub const MISSING: u8 = 0xEE;
 pub const LEAD: u8 = 0x40;
 const VALUE: u8 = 0x0B;
 
-/// The last place where an EFS is looked for: the only one in a small image.
-pub const EFS: usize = 0x2_0000;
+/// Where an EFS is looked for: how many bytes before an image's end, in the order of the search.
+pub const EFS_BEFORE_END: [usize; 6] = [
+    0x06_0000, 0x0E_0000, 0x1E_0000, 0x3E_0000, 0x7E_0000, 0xFE_0000,
+];
 /// The shortest image that has an EFS, and the longest image.
-pub const SHORTEST: usize = EFS + 0x24;
+pub const SHORTEST: usize = EFS_BEFORE_END[0];
 pub const LONGEST: usize = 16_777_216;
 /// Where the directories begin. Either has room for 512 entries.
 pub const LEVEL_ONE: usize = 0x1000;
 pub const LEVEL_TWO: usize = 0x4000;
+
+/// Where an EFS is looked for in an image of a length, in the order of the search.
+pub fn efs_places(length: usize) -> Vec<usize> {
+    let places = EFS_BEFORE_END.map(|before| length.checked_sub(before));
+    places.into_iter().flatten().collect()
+}
+
+/// The physical address of the first byte of an image: its last is the last below 4 GiB.
+pub fn window_first(length: usize) -> u64 {
+    (1 << 32) - length as u64
+}
 
 /// An entry's sixteen bytes.
 pub fn entry_bytes(entry: &NewEntry) -> [u8; 16] {
@@ -68,8 +81,9 @@ pub fn mixed_entries(amount: usize, variant: usize) -> Vec<NewEntry> {
                 class,
                 subprogram: subprogram as u8,
                 size: (0x10 + 3 * i) as u32,
+                // An address in the shortest image is one in every other that has an EFS.
                 location: match mode {
-                    0 => 0xFF00_0000 + offset,
+                    0 => window_first(SHORTEST) + offset,
                     _ => offset,
                 },
                 mode,
@@ -97,11 +111,14 @@ pub fn lead_with(subprogram: u8) -> NewEntry {
     }
 }
 
-/// An image of a length, with an EFS whose pointer leads to level one.
+/// An image of a length, with an EFS whose pointer leads to level one. It is where the search comes to last.
 pub fn image(length: usize, one: &[NewEntry], two: &[NewEntry]) -> Vec<u8> {
     let mut image = vec![0; length];
-    image[EFS..EFS + 4].copy_from_slice(&[0xAA, 0x55, 0xAA, 0x55]);
-    image[EFS + 0x14..EFS + 0x18].copy_from_slice(&(LEVEL_ONE as u32).to_le_bytes());
+    let efs = efs_places(length)
+        .pop()
+        .expect("the image is not too short for an EFS");
+    image[efs..efs + 4].copy_from_slice(&[0xAA, 0x55, 0xAA, 0x55]);
+    image[efs + 0x14..efs + 0x18].copy_from_slice(&(LEVEL_ONE as u32).to_le_bytes());
     for (place, bytes) in [
         (LEVEL_ONE, directory_bytes(b"$PSP", one)),
         (LEVEL_TWO, directory_bytes(b"$PL2", two)),
@@ -213,6 +230,27 @@ mod tests {
             );
         }
         assert_eq!(pairs(&leads(MOST_LEADS)), 256);
+    }
+
+    #[test]
+    fn every_entry_that_is_no_value_has_its_bytes_in_the_image() {
+        let entries = mixed_entries(MOST_MIXED, 0);
+        for length in [SHORTEST, LONGEST] {
+            let image = image(length, &entries, &[]);
+            for (index, entry) in (0..).zip(&entries) {
+                let part = second::flash::bytes(&image, 1, index);
+                let number = part.err().map(|refused| refused.number);
+                let due = if entry.class == VALUE { Some(17) } else { None };
+                assert_eq!(number, due, "entry {index} of {length} bytes");
+            }
+        }
+    }
+
+    #[test]
+    fn the_efs_of_the_longest_image_is_the_last_that_is_looked_for() {
+        let efs = |length| second::flash::efs(&image(length, &[], &[])).map(|efs| efs.place);
+        assert_eq!(efs(SHORTEST), Ok(0));
+        assert_eq!(efs(LONGEST), Ok(0x2_0000));
     }
 
     #[test]

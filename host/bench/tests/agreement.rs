@@ -124,13 +124,16 @@ fn random_entry(trial: &mut Trial, length: usize) -> NewEntry {
         0x8001,
         0x8001,
         0x1_0000,
+        length.saturating_sub(1),
         length,
         length + 1,
         length / 2,
     ];
     let offset = trial.one_of(&near) as u64;
     let location = match mode {
-        0 => 0xFF00_0000 + offset,
+        // What would lead there if every window were of 16 MiB.
+        0 if trial.once_in(4) => samples::window_first(samples::LONGEST) + offset,
+        0 => samples::window_first(length) + offset,
         _ => offset,
     };
     NewEntry {
@@ -195,10 +198,13 @@ fn set_reserved(directory: &mut [u8], index: usize) {
 fn random_image(trial: &mut Trial) -> Vec<u8> {
     let length = match trial.below(40) {
         0 => trial.one_of(&[0, 1, samples::LONGEST, samples::LONGEST + 1]),
-        1 => trial.one_of(&[0x82_0023, 0x82_0024]),
-        2 => samples::SHORTEST - 1,
+        // Candidates just out of the window and just in it, and boards of 4 and 8 MiB.
+        1 => trial.one_of(&samples::EFS_BEFORE_END) - trial.below(2),
+        2 => trial.one_of(&[samples::LONGEST / 4, samples::LONGEST / 2]),
+        3 => samples::SHORTEST - 1,
         _ => samples::SHORTEST + trial.below(2) * 0x400,
     };
+    let window = samples::window_first(length);
     let mut image = vec![0; length];
     for (place, cookie) in PLACES.iter().zip([b"$PSP", b"$PL2", b"$PL2", b"$PSP"]) {
         let may_lead = cookie == b"$PSP" || trial.once_in(2);
@@ -216,18 +222,29 @@ fn random_image(trial: &mut Trial) -> Vec<u8> {
         }
         put(&mut image, *place, &bytes);
     }
-    for efs in [0x82_0000, samples::EFS] {
+    // The last place and the first; in an image that has none, two that would do if its window were longer.
+    let places = samples::efs_places(length);
+    let last = *places.last().unwrap_or(&0);
+    let first = *places.first().unwrap_or(&0x2_0000);
+    for efs in [last, first] {
         let mut bytes = [0; 0x24];
         bytes[..4].copy_from_slice(&[0xAA, 0x55, 0xAA, 0x55]);
         for at in [0x10, 0x14] {
-            let place = trial.one_of(&[0, 0x100, 0x1_0000, 0x1_0000, length]) as u32;
-            let pointer = match trial.below(6) {
-                0 => u32::MAX,
-                1 => 0x0100_0000 + place,
-                2 | 3 => 0xFF00_0000 | place,
+            let place = match trial.below(8) {
+                0 => 0,
+                1 => 0x100,
+                2 => length.saturating_sub(trial.below(2)),
+                _ => 0x1_0000,
+            } as u64;
+            let pointer = match trial.below(24) {
+                0..=3 => u32::MAX.into(),
+                4 | 5 => 0x0100_0000 + place,
+                6 => samples::window_first(samples::LONGEST) + place,
+                7 => window - 1,
+                8..=15 => window + place,
                 _ => place,
             };
-            bytes[at..at + 4].copy_from_slice(&pointer.to_le_bytes());
+            bytes[at..at + 4].copy_from_slice(&(pointer as u32).to_le_bytes());
         }
         if trial.once_in(8) {
             trial.damage(&mut bytes);

@@ -213,7 +213,7 @@ pub fn find_image(image: &[u8], class: u8, subprogram: u8) -> Answer<ImageMatch>
 mod tests {
     use super::*;
     use crate::answer::Refusal;
-    use crate::sample::{board, board_that_repeats, EFS, LEVEL_ONE, LEVEL_TWO};
+    use crate::sample::{board, board_that_repeats, EFS, LENGTH, LEVEL_ONE, LEVEL_TWO, WINDOW};
 
     /// The sample board with other pointers in its EFS.
     fn board_with(early: u32, late: u32) -> Vec<u8> {
@@ -232,8 +232,14 @@ mod tests {
         };
         let image = board_with(0x0123_4567, 0x89AB_CDEF);
         assert_eq!(efs(&image), Ok(expected));
-        // Cut off by one byte it does not count.
-        assert_eq!(efs(&image[..image.len() - 1]), Err(Refusal::alone(2)));
+        // The flash ends at 4 GiB: bytes taken from its start move the EFS, and one taken from its end moves it away.
+        let first = Efs {
+            place: 0,
+            ..expected
+        };
+        assert_eq!(efs(&image[EFS..]), Ok(first));
+        assert_eq!(efs(&image[EFS + 1..]), Err(Refusal::alone(2)));
+        assert_eq!(efs(&image[..LENGTH - 1]), Err(Refusal::alone(2)));
         assert_eq!(efs(&[]), Err(Refusal::alone(15)));
         assert_eq!(efs(&vec![0; 16_777_217]), Err(Refusal::alone(15)));
     }
@@ -247,14 +253,24 @@ mod tests {
                 place,
             })
         };
-        let physical = 0xFF00_1000;
+        let physical = WINDOW + 0x1000;
         assert_eq!(pointer(&board()), leads(0x14, LEVEL_ONE, LEVEL_ONE));
         let both = board_with(0x2000, physical);
-        assert_eq!(pointer(&both), leads(0x14, 0xFF00_1000, 0x1000));
+        assert_eq!(pointer(&both), leads(0x14, 0xFFF8_1000, 0x1000));
         for absent in [0, 0xFFFF_FFFF] {
             let early = board_with(physical, absent);
-            assert_eq!(pointer(&early), leads(0x10, 0xFF00_1000, 0x1000));
+            assert_eq!(pointer(&early), leads(0x10, 0xFFF8_1000, 0x1000));
         }
+    }
+
+    #[test]
+    fn a_pointer_leads_from_the_first_byte_of_the_image_to_its_last() {
+        let place = |late| pointer(&board_with(0, late)).map(|to| to.place as usize);
+        assert_eq!(place(WINDOW), Ok(0));
+        assert_eq!(place(1), Ok(1));
+        assert_eq!(place(LENGTH as u32 - 1), Ok(LENGTH - 1));
+        // 0xFFFFFFFF would be the last byte, but is an absent pointer.
+        assert_eq!(place(0xFFFF_FFFE), Ok(LENGTH - 2));
     }
 
     #[test]
@@ -264,13 +280,11 @@ mod tests {
         assert_eq!(pointer(&[0]), Err(Refusal::alone(2)));
         assert_eq!(refused(0, 0xFFFF_FFFF), 8);
         // Neither a flash offset nor physical, on both sides.
-        assert_eq!(refused(0x1000, 0x0100_0000), 7);
-        assert_eq!(refused(0x1000, 0xFEFF_FFFF), 7);
-        // The image's length is the last place where a pointer may lead.
-        let length = board().len() as u32;
-        let last = pointer(&board_with(0, length)).map(|to| to.place);
-        assert_eq!(last, Ok(u64::from(length)));
-        assert_eq!(refused(0x1000, length + 1), 7);
+        assert_eq!(refused(0x1000, LENGTH as u32), 7);
+        assert_eq!(refused(0x1000, WINDOW - 1), 7);
+        // It would be one or the other in an image of 16 MiB.
+        assert_eq!(refused(0x1000, 0x00FF_FFFF), 7);
+        assert_eq!(refused(0x1000, 0xFF00_1000), 7);
     }
 
     #[test]

@@ -2,7 +2,11 @@
 
 use crate::checksum::checksum;
 
-/// Where the EFS lies: the last place where one is looked for.
+/// The image's length, and the physical address of its first byte: its last is the last below 4 GiB.
+pub const LENGTH: usize = 0x8_0000;
+pub const WINDOW: u32 = 0xFFF8_0000;
+
+/// Where the EFS lies: the first place where one is looked for, 0xFFFA0000, and the only one in so short an image.
 pub const EFS: usize = 0x2_0000;
 
 /// Where the directories begin.
@@ -42,7 +46,7 @@ fn entries() -> [Vec<Vec<u8>>; 2] {
 
 /// An image whose EFS leads to a level one of these entries, and where a level two of these begins.
 fn board_of([one, two]: [Vec<Vec<u8>>; 2]) -> Vec<u8> {
-    let mut image = vec![0; EFS + 0x24];
+    let mut image = vec![0; LENGTH];
     let mut put = |place: u64, bytes: &[u8]| {
         let place = place as usize;
         image[place..place + bytes.len()].copy_from_slice(bytes);

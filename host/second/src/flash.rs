@@ -7,11 +7,8 @@ use std::collections::{BTreeMap, BTreeSet};
 
 /// The longest flash image.
 const LONGEST_IMAGE: usize = 16_777_216;
-/// Where the window of physical addresses onto the flash begins, and its last address.
-const WINDOW_FIRST: u64 = 0xFF00_0000;
-const WINDOW_LAST: u64 = 0xFFFF_FFFF;
-/// Pointers below this are flash offsets.
-const POINTER_OFFSETS_END: u32 = 0x0100_0000;
+/// Where the window of physical addresses onto the flash ends: at 4 GiB, however long the image is.
+const WINDOW_END: u64 = 1 << 32;
 /// Where an EFS may lie, in the order of trial.
 const EFS_CANDIDATES: [PhysicalAddress; 6] = [
     PhysicalAddress(0xFFFA_0000),
@@ -44,11 +41,17 @@ pub struct PhysicalAddress(pub u64);
 pub struct FlashOffset(pub u64);
 
 impl PhysicalAddress {
-    /// The flash offset that the address names; an address outside the window is 7.
-    pub fn flash_offset(self) -> Result<FlashOffset, Refusal> {
-        require(self.0 >= WINDOW_FIRST && self.0 <= WINDOW_LAST, 7)?;
-        Ok(FlashOffset(self.0 - WINDOW_FIRST))
+    /// The flash offset that the address names in an image of that length, which is good; an address outside the window is 7.
+    pub fn flash_offset(self, image_length: usize) -> Result<FlashOffset, Refusal> {
+        let first = window_first(image_length);
+        require(self.0 >= first && self.0 < WINDOW_END, 7)?;
+        Ok(FlashOffset(self.0 - first))
     }
+}
+
+/// Where the window onto an image of that length begins: it is as long as the image.
+fn window_first(image_length: usize) -> u64 {
+    WINDOW_END - image_length as u64
 }
 
 /// The two levels of directory.
@@ -155,13 +158,13 @@ impl Entry {
         self.kind == kind && self.subprogram == subprogram
     }
 
-    /// The flash offset that location and mode name, for an entry of the directory at `o`.
-    fn flash_offset(&self, o: u64) -> Result<FlashOffset, Refusal> {
+    /// The flash offset that location and mode name, for an entry of that directory.
+    fn flash_offset(&self, directory: &Directory) -> Result<FlashOffset, Refusal> {
         match self.mode {
-            0 => PhysicalAddress(self.location).flash_offset(),
+            0 => PhysicalAddress(self.location).flash_offset(directory.image.len()),
             1 => Ok(FlashOffset(self.location)),
-            // No sum here passes 2^64: o is at most an image's length, a location has 62 bits.
-            2 => Ok(FlashOffset(o + self.location)),
+            // No sum here passes 2^64: the place is at most an image's length, a location has 62 bits.
+            2 => Ok(FlashOffset(directory.place + self.location)),
             _ => Err(Refusal::of(16)),
         }
     }
@@ -298,7 +301,7 @@ impl<'a> Directory<'a> {
         // a value has no bytes
         require(entry.kind != IS_A_VALUE, 17)?;
         // mode 3 (16), a physical address outside the window (7)
-        let FlashOffset(place) = entry.flash_offset(self.place)?;
+        let FlashOffset(place) = entry.flash_offset(self)?;
         // the range ends within the image
         let length = u64::from(entry.size);
         require(lies_in(self.image, place, length), 7)?;
@@ -327,7 +330,7 @@ impl<'a> Directory<'a> {
     /// Where an entry of this directory leads.
     fn place_led_to(&self, entry: &Entry) -> Result<u64, Refusal> {
         // mode 3 (16), a physical address outside the window (7)
-        let FlashOffset(o) = entry.flash_offset(self.place)?;
+        let FlashOffset(o) = entry.flash_offset(self)?;
         // beyond the image; the entry's size has no part in it
         require(o <= self.image.len() as u64, 7)?;
         Ok(o)
@@ -342,7 +345,11 @@ fn check_image_length(image: &[u8]) -> Result<(), Refusal> {
 /// The first EFS candidate that counts.
 fn find_efs(image: &[u8]) -> Result<Efs, Refusal> {
     for candidate in EFS_CANDIDATES {
-        let FlashOffset(place) = candidate.flash_offset()?;
+        let place = match candidate.flash_offset(image.len()) {
+            Ok(FlashOffset(place)) => place,
+            // a candidate below the window is passed over
+            Err(_) => continue,
+        };
         let o = place as usize;
         if lies_in(image, place, EFS_LENGTH) && image[o..].starts_with(&EFS_SIGNATURE) {
             return Ok(Efs {
@@ -365,16 +372,15 @@ fn directory_pointer(image: &[u8]) -> Result<Pointer, Refusal> {
         Some(found) => found,
         None => return Err(Refusal::of(8)),
     };
-    // physical, a flash offset, or neither
-    let FlashOffset(place) = if u64::from(value) >= WINDOW_FIRST {
-        PhysicalAddress(u64::from(value)).flash_offset()?
-    } else if value < POINTER_OFFSETS_END {
-        FlashOffset(u64::from(value))
+    // physical, a flash offset, or neither; what is taken leads into the image
+    let number = u64::from(value);
+    let FlashOffset(place) = if number >= window_first(image.len()) {
+        PhysicalAddress(number).flash_offset(image.len())?
+    } else if number < image.len() as u64 {
+        FlashOffset(number)
     } else {
         return Err(Refusal::of(7));
     };
-    // beyond the image's length
-    require(place <= image.len() as u64, 7)?;
     Ok(Pointer {
         field,
         value,

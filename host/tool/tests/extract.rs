@@ -58,7 +58,7 @@ fn an_entry_without_bytes_makes_an_empty_file_and_one_at_the_end_all_of_it() {
     let place = Workplace::with_board("extract-limits");
     let expected =
         "\"none.bin\" holds the 0 bytes of entry 3 of level 2, 0x13 debug unlock image: \
-                    none, at 0x30000 of the image\n";
+                    none, at 0x80000 of the image\n";
     place
         .tool(&["extract", "board.rom", "2", "3", "none.bin"])
         .expect(0, expected);
@@ -69,13 +69,13 @@ fn an_entry_without_bytes_makes_an_empty_file_and_one_at_the_end_all_of_it() {
         Board::with(|board| board.two.entries[2].size -= 1),
     );
     let expected = "\"last.bin\" holds the 256 bytes of entry 2 of level 2, 0x5a unnamed type: \
-                    0x2ff00 to 0x2ffff of the image\n";
+                    0x7ff00 to 0x7ffff of the image\n";
     place
         .tool(&["extract", "fits.rom", "2", "2", "last.bin"])
         .expect(0, expected);
     assert_eq!(
         place.get("last.bin"),
-        Board::new().bytes()[0x2_FF00..LENGTH]
+        Board::new().bytes()[LENGTH - 0x100..]
     );
 }
 

@@ -1,6 +1,6 @@
 //! `kpalumere find` and `kpalumere entry` as people and programs use them.
 
-use agree::board::{entry, Board, EFS, LENGTH, LEVEL_ONE, LEVEL_TWO};
+use agree::board::{entry, Board, EFS, LENGTH, LEVEL_ONE, LEVEL_TWO, WINDOW};
 use agree::workplace::Workplace;
 
 #[test]
@@ -30,7 +30,7 @@ entry 0 of level 1 at 0x21000 (1 entry tested)
   type        0x00 AMD public key
   subprogram  0x00
   size        0x240 (576 bytes)
-  location    0xff022000, mode 0: physical address
+  location    0xfffa2000, mode 0: physical address
   bytes       0x22000 to 0x2223f of the image
 ";
     place
@@ -106,8 +106,8 @@ entry 3 of level 2 at 0x28000, which has 4 entries
   type        0x13 debug unlock image
   subprogram  0x00
   size        0x0 (0 bytes)
-  location    0x30000, mode 1: from image start
-  bytes       none, at 0x30000 of the image
+  location    0x80000, mode 1: from image start
+  bytes       none, at 0x80000 of the image
 ";
     place
         .tool(&["entry", "board.rom", "2", "3"])
@@ -139,7 +139,7 @@ entry 2 of level 2 at 0x28000, which has 4 entries
   type        0x5a unnamed type
   subprogram  0x00
   size        0x101 (257 bytes)
-  location    0x2ff00, mode 1: from image start
+  location    0x7ff00, mode 1: from image start
   bytes       refused 7: address outside the image
 ";
     place
@@ -149,7 +149,15 @@ entry 2 of level 2 at 0x28000, which has 4 entries
 
 /// Images that are refused, each with the number and its words.
 fn refused_images() -> Vec<(&'static str, Vec<u8>)> {
-    let cut = |length| Board::new().bytes()[..length].to_vec();
+    let dump = Board::new().bytes();
+    // Level one begins so many bytes before the image's end.
+    let at_the_end = |length: usize| {
+        let place = LENGTH - length;
+        let mut image = Board::with(|board| board.late = place as u32);
+        let one = Board::new().one.bytes();
+        image[place..].copy_from_slice(&one[..length]);
+        image
+    };
     vec![
         ("refused 15: image empty or too long", vec![]),
         (
@@ -157,10 +165,11 @@ fn refused_images() -> Vec<(&'static str, Vec<u8>)> {
             vec![0; (16 << 20) + 1],
         ),
         ("refused 2: signature not found", vec![0; 16 << 20]),
-        ("refused 2: signature not found", cut(EFS + 0x23)),
-        ("refused 7: address outside the image", cut(EFS + 0x24)),
-        ("refused 1: too few bytes", cut(LEVEL_ONE)),
-        ("refused 1: too few bytes", cut(LEVEL_ONE + 16 * 6 - 1)),
+        // Dumps that lack the EFS's first byte, and the last byte of all, by which every address is counted.
+        ("refused 2: signature not found", dump[EFS + 1..].to_vec()),
+        ("refused 2: signature not found", dump[..LENGTH - 1].to_vec()),
+        ("refused 1: too few bytes", at_the_end(1)),
+        ("refused 1: too few bytes", at_the_end(16 * 6 - 1)),
         (
             "refused 3: length or count outside its limits",
             Board::with(|board| board.one.total = 513),
@@ -173,9 +182,18 @@ fn refused_images() -> Vec<(&'static str, Vec<u8>)> {
             "refused 5: reserved bits set, or a value that is not allowed",
             Board::with(|board| board.one.entries[4].reserved = 1),
         ),
+        // The pointer is the image's length, lies just below the window, and would be in the window of a longer image.
         (
             "refused 7: address outside the image",
-            Board::with(|board| board.late = 0x0100_0000),
+            Board::with(|board| board.late = LENGTH as u32),
+        ),
+        (
+            "refused 7: address outside the image",
+            Board::with(|board| board.late = WINDOW as u32 - 1),
+        ),
+        (
+            "refused 7: address outside the image",
+            Board::with(|board| board.late = 0xFF00_0000 + LEVEL_ONE as u32),
         ),
         // The public key again, last, with another size and place.
         (
@@ -210,6 +228,9 @@ fn refused_below() -> Vec<(&'static str, Vec<u8>)> {
             "refused 7: address outside the image",
             led_by(1 << 62 | (LENGTH as u64 + 1)),
         ),
+        // By a physical address below the window, and by one where it ends.
+        ("refused 7: address outside the image", led_by(WINDOW - 1)),
+        ("refused 7: address outside the image", led_by(1 << 32)),
         ("refused 1: too few bytes", led_by(1 << 62 | LENGTH as u64)),
         (
             "refused 2: signature not found",

@@ -3,6 +3,7 @@
 register.py json FILE   what JSON says, as calls and answers: the image's number, the call, the answer, parted by tabs
 register.py csv FILE    the same of CSV
 register.py names FORM FILE   the name of each image in hexadecimal digits, a line each
+register.py from-end FORM FILE   each image, a line each, with every place as its distance from the image's end
 register.py terminal COLUMNS COMMAND...   what the command writes on a terminal of so many columns; its status at the end
 """
 
@@ -109,6 +110,20 @@ def name_of(image):
     return image["file"].encode()
 
 
+def from_end(image):
+    """An image's fields, with every place as its distance from the image's end, and without the image's length."""
+
+    def told(name, value):
+        if isinstance(value, dict):
+            return {part: told(part, inner) for part, inner in value.items()}
+        if isinstance(value, list):
+            return [told(name, inner) for inner in value]
+        is_place = name == "directory" or name.endswith("place")
+        return image["length"] - value if is_place and value is not None else value
+
+    return {name: told(name, value) for name, value in image.items() if name != "length"}
+
+
 def on_terminal(columns, command):
     """What a command writes on a terminal, and its status."""
     child, terminal = pty.fork()
@@ -146,6 +161,9 @@ def main(words):
     elif words[0] == "names":
         for image in read(words[1], words[2]):
             print(name_of(image).hex())
+    elif words[0] == "from-end":
+        for image in read(words[1], words[2]):
+            print(json.dumps(from_end(image)))
     else:
         written, status = on_terminal(int(words[1]), words[2:])
         sys.stdout.buffer.write(written + f"status {status}\n".encode())

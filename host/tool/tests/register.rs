@@ -1,7 +1,8 @@
 //! `kpalumere register` as people and programs use it: what it shows of a sample and of refused images, on wide terminals and
-//! narrow ones; its JSON and CSV, read by Python and held against the second program; many images; its statuses.
+//! narrow ones; its JSON and CSV, read by Python and held against the second program; boards of other sizes; many images; its
+//! statuses.
 
-use agree::board::entry;
+use agree::board::{entry, Board, EFS, LENGTH, LEVEL_ONE, WINDOW};
 use agree::cases;
 use agree::programs::{built, built_folder, run, Program, Run};
 use agree::subjects::directory::{Directory, Entry};
@@ -13,11 +14,8 @@ use std::process::Command;
 
 // ---- images
 
-/// Where the parts of a test's board lie, and how long it is.
-const EFS: usize = 0x2_0000;
-const LEVEL_ONE: usize = 0x2_1000;
+/// Where level two of a test's board lies: right behind the longest level one.
 const LEVEL_TWO: usize = 0x2_3800;
-const LENGTH: usize = 0x2_8000;
 /// Where a second directory of level two begins, in a board that has one.
 const THIRD: usize = 0x2_7000;
 
@@ -73,6 +71,9 @@ fn refused() -> Vec<(&'static str, u64, Vec<u8>)> {
     let to_a_third = level_one(&[entry(0x40, 1, 0, THIRD as u64, 1)]);
     let mut third_repeats = board(&to_a_third, &level_two(&[]));
     put(&mut third_repeats, THIRD, &two_repeats.bytes());
+    // A dump that lacks its last byte, and one that is padded to twice its length: its pointer leads into the padding.
+    let dump = Board::new().bytes();
+    let padded = [&dump[..], &[0xFF; LENGTH]].concat();
     vec![
         (
             "one-runs-out.rom",
@@ -80,6 +81,8 @@ fn refused() -> Vec<(&'static str, u64, Vec<u8>)> {
             changed(EFS + 0x14, &(LENGTH as u32 - 8).to_le_bytes()),
         ),
         ("no-efs.rom", 2, changed(EFS, &[0])),
+        ("cut-off.rom", 2, dump[..LENGTH - 1].to_vec()),
+        ("padded.rom", 2, padded),
         ("one-cookie.rom", 2, changed(LEVEL_ONE, b"$PL2")),
         (
             "one-total.rom",
@@ -92,7 +95,8 @@ fn refused() -> Vec<(&'static str, u64, Vec<u8>)> {
         (
             "pointer-astray.rom",
             7,
-            changed(EFS + 0x14, &0x0200_0000u32.to_le_bytes()),
+            // Where level one is in an image of 16 MiB.
+            changed(EFS + 0x14, &0xFF02_1000u32.to_le_bytes()),
         ),
         ("second-two-astray.rom", 7, board(&astray, &level_two(&[]))),
         ("no-pointer.rom", 8, changed(EFS + 0x14, &[0; 4])),
@@ -123,7 +127,7 @@ fn accepted() -> Vec<(&'static str, Vec<u8>)> {
     let wide = level_two(&[
         entry(0xFE, 0xFD, u32::MAX, (1 << 62) - 1, 0),
         entry(0x0B, 1, 0, (1 << 62) - 1, 3),
-        entry(0x12, 0, 0x40, 0xFF02_4000, 0),
+        entry(0x12, 0, 0x40, WINDOW + 0x2_4000, 0),
         entry(0x08, 0, 0x40, 0x100, 2),
         entry(0x02, 0, LENGTH as u32, 0, 1),
         entry(0x02, 1, 1, LENGTH as u64, 1),
@@ -272,6 +276,17 @@ fn refused_images_are_shown_with_what_could_be_read() {
 }
 
 #[test]
+fn where_a_wrong_length_may_be_the_cause_that_is_said_first() {
+    let room = room("lengths");
+    for (name, number, bytes) in &refused() {
+        write(&room, name, bytes);
+        let shown = text(&tool(&room, &["register", name]).answers);
+        let asked = shown.contains("\n  Is the file as long as the flash part? Its last byte is ");
+        assert_eq!(asked, [2, 7].contains(number), "{shown}");
+    }
+}
+
+#[test]
 fn no_line_is_wider_than_the_terminal_and_no_number_is_broken() {
     let room = room("narrow");
     let mut words = vec!["register"];
@@ -393,7 +408,7 @@ fn an_image_that_repeats_an_entry_is_refused_in_every_form() {
     for form in [&["--csv"][..], &["--csv", "--quiet"]] {
         let shown = shown(form);
         for expected in [
-            "1,image,two-repeats.rom,,refused,18,,163840,",
+            "1,image,two-repeats.rom,,refused,18,,524288,",
             "1,level,two-repeats.rom,,,18,,,,,,,,,,,2,,,,,,,,,,,,,2,0,1,0",
             "1,asked,two-repeats.rom,,,18,",
         ] {
@@ -402,6 +417,198 @@ fn an_image_that_repeats_an_entry_is_refused_in_every_form() {
                 "{expected}\n{shown}"
             );
         }
+    }
+}
+
+// ---- boards of other sizes
+
+/// The sizes of flash parts.
+const SIZES: [usize; 3] = [4 << 20, 8 << 20, 16 << 20];
+
+/// Where the boot loader of such a board is.
+const BOOT_LOADER: u64 = 0xFFC5_0000;
+
+/// A board that has all its parts at the same physical addresses, and so as far from its end, whatever its length is. No location
+/// counts from the image's start.
+fn board_below_4_gib(length: usize, boot_loader: u64) -> Vec<u8> {
+    let (efs, one, two) = (0xFFC2_0000, 0xFFC3_0000, 0xFFC4_0000);
+    let level_one = [
+        entry(0x00, 0, 0x240, 0xFFC5_8000, 0),
+        entry(0x40, 0, 0x400, two, 0),
+        entry(0x08, 0, 0x800, 0x8000, 2),
+        entry(0x0B, 0, 0, 1, 0),
+        entry(0x22, 0, 0x100, 0x1000, 3),
+        entry(0x5A, 0, 0x11, 0xFFFF_FFF0, 0),
+    ];
+    let level_two = [
+        entry(0x01, 0, 0x1000, boot_loader, 0),
+        entry(0x12, 0, 0, 0xFFFF_FFFF, 0),
+        entry(0x03, 0, 0x200, 0x4000, 2),
+    ];
+    let mut image = vec![0xFF; length];
+    let mut put_at = |address: u64, bytes: &[u8]| {
+        let place = length as u64 - ((1 << 32) - address);
+        put(&mut image, place as usize, bytes);
+    };
+    put_at(efs, &[0xAA, 0x55, 0xAA, 0x55]);
+    put_at(efs + 0x14, &(one as u32).to_le_bytes());
+    put_at(one, &Directory::of(1, level_one.to_vec()).bytes());
+    put_at(two, &Directory::of(2, level_two.to_vec()).bytes());
+    put_at(boot_loader + 0x10, b"$PS1");
+    put_at(boot_loader + 0x60, &0x0008_0174u32.to_le_bytes());
+    image
+}
+
+/// A register for people with each place as its distance from the image's end, and without the length; and how many places it
+/// has. On these boards sizes and locations are below 0x20000 or above 16 MiB, where no place is. Columns are as wide as their
+/// numbers, so words are parted by a single space.
+fn from_end(shown: &str, length: usize) -> (String, usize) {
+    let mut places = 0;
+    let mut parts = shown.split("0x");
+    let mut told = parts.next().unwrap_or_default().to_string();
+    for part in parts {
+        let digits = part.find(|c: char| !c.is_ascii_hexdigit());
+        let (digits, rest) = part.split_at(digits.unwrap_or(part.len()));
+        let number = usize::from_str_radix(digits, 16).expect("a number");
+        if (0x2_0000..1 << 24).contains(&number) {
+            places += 1;
+            told.push_str(&format!("end-{:x}{rest}", length - number));
+        } else {
+            told.push_str(&format!("0x{part}"));
+        }
+    }
+    let length = format!("length {length} bytes");
+    assert!(told.contains(&length), "{told}");
+    let told = told.replace(&length, "length");
+    let lines = told.lines().map(|line| {
+        let words: Vec<&str> = line.split_whitespace().collect();
+        words.join(" ") + "\n"
+    });
+    (lines.collect(), places)
+}
+
+/// The register of a board in each form, with each place as its distance from the image's end.
+fn registers_from_end(room: &Path, image: &[u8]) -> [String; 3] {
+    write(room, "board.rom", image);
+    let shown = text(&tool(room, &["register", "board.rom"]).answers);
+    let (shown, places) = from_end(&shown, image.len());
+    // The EFS and where it leads, both directories, six parts of which one is empty and each other has two ends, and the
+    // directories of four entries that are found.
+    assert_eq!(places, 2 + 2 + 11 + 4, "{shown}");
+    let [json, csv] = ["json", "csv"].map(|form| {
+        let run = tool(room, &["register", &format!("--{form}"), "board.rom"]);
+        let file = room.join(form);
+        fs::write(&file, &run.answers).unwrap();
+        let told = python(&[OsStr::new("from-end"), OsStr::new(form), file.as_os_str()]);
+        text(&told.answers)
+    });
+    [shown, json, csv]
+}
+
+#[test]
+fn boards_of_4_8_and_16_mib_have_the_same_register_but_for_places() {
+    let room = room("sizes");
+    let all = SIZES.map(|length| {
+        let image = board_below_4_gib(length, BOOT_LOADER);
+        registers_from_end(&room, &image)
+    });
+    let [shown, json, csv] = &all[0];
+    assert!(shown.starts_with("\"board.rom\": accepted\n"), "{shown}");
+    assert!(shown.contains("version 00.08.01.74 (3 entries tested)"));
+    for (length, registers) in SIZES.iter().zip(&all) {
+        let [other_shown, other_json, other_csv] = registers;
+        assert_eq!(other_shown, shown, "{length}");
+        assert_eq!(other_json, json, "{length}");
+        assert_eq!(other_csv, csv, "{length}");
+        // A boot loader one byte further from the end is told apart, in every form.
+        let moved = board_below_4_gib(*length, BOOT_LOADER - 1);
+        let moved = registers_from_end(&room, &moved);
+        for (moved, as_it_was) in moved.iter().zip(registers) {
+            assert_ne!(moved, as_it_was, "{length}");
+        }
+    }
+}
+
+#[test]
+fn a_board_that_is_cut_off_or_padded_is_refused_and_one_padded_before_its_start_is_not() {
+    let room = room("dumps");
+    let dump = board_below_4_gib(8 << 20, BOOT_LOADER);
+    let padding = vec![0xFF; dump.len()];
+    for (name, image, verdict) in [
+        ("whole.rom", dump.clone(), "accepted"),
+        (
+            "cut-behind.rom",
+            dump[..dump.len() - 1].to_vec(),
+            "refused 2",
+        ),
+        ("cut-before.rom", dump[1..].to_vec(), "accepted"),
+        (
+            "padded-behind.rom",
+            [&dump[..], &padding].concat(),
+            "refused 2",
+        ),
+        (
+            "padded-before.rom",
+            [&padding[..], &dump].concat(),
+            "accepted",
+        ),
+        (
+            "too-long.rom",
+            [&padding[..], &padding, &dump].concat(),
+            "refused 15",
+        ),
+    ] {
+        write(&room, name, &image);
+        let shown = text(&tool(&room, &["register", name]).answers);
+        let begins = format!("{name:?}: {verdict}");
+        assert!(shown.starts_with(&begins), "{shown}");
+    }
+}
+
+/// A board with one entry of mode 0, whose EFS stands where every size from 4 MiB on has one. Its pointer is physical or not.
+fn board_with_efs_at_its_start(length: usize, is_physical: bool) -> Vec<u8> {
+    let window = (1 << 32) - length as u64;
+    let pointer = LEVEL_ONE as u64 + if is_physical { window } else { 0 };
+    let one = Directory::of(1, vec![entry(0x01, 0, 0x100, window + 0x3_0000, 0)]);
+    let mut image = vec![0xFF; length];
+    put(&mut image, EFS, &[0xAA, 0x55, 0xAA, 0x55]);
+    put(&mut image, EFS + 0x14, &(pointer as u32).to_le_bytes());
+    put(&mut image, LEVEL_ONE, &one.bytes());
+    image
+}
+
+#[test]
+fn a_dump_of_another_length_may_be_accepted_and_its_addresses_are_wrong() {
+    let room = room("other-lengths");
+    let (eight, sixteen) = (8 << 20, 16 << 20);
+    let padded = |is_physical| {
+        let mut image = board_with_efs_at_its_start(eight, is_physical);
+        image.resize(sixteen, 0xFF);
+        image
+    };
+    let cut_off = |is_physical| {
+        let mut image = board_with_efs_at_its_start(sixteen, is_physical);
+        image.truncate(eight);
+        image
+    };
+    let whole = board_with_efs_at_its_start(eight, false);
+    for (image, verdict, entry) in [
+        (whole, "accepted\n", Some("0x30000 to 0x300ff ")),
+        (padded(true), "refused 2: ", None),
+        (padded(false), "accepted\n", Some("0x830000 to 0x8300ff ")),
+        (cut_off(true), "refused 7: ", None),
+        (cut_off(false), "accepted\n", Some("refused 7: ")),
+    ] {
+        write(&room, "dump.rom", &image);
+        let shown = text(&tool(&room, &["register", "dump.rom"]).answers);
+        let begins = format!("\"dump.rom\": {verdict}");
+        assert!(shown.starts_with(&begins), "{shown}");
+        let row = shown.lines().find(|line| line.contains("0x01 boot loader"));
+        assert_eq!(row.is_some(), entry.is_some(), "{shown}");
+        let told = row
+            .zip(entry)
+            .map_or(true, |(row, entry)| row.contains(entry));
+        assert!(told, "{shown}");
     }
 }
 
@@ -786,6 +993,15 @@ fn every_refusal_is_explained() {
         assert!(list.contains(&format!("{number:>4}  {title}\n")), "{title}");
         for part in ["It means:", "Usual causes:", "Look at:"] {
             assert!(page.lines().any(|line| line == part), "{number}: {part}");
+        }
+        // What the size of the flash part changes is told for each.
+        for size in [
+            "4 MiB, 4194304 bytes: ",
+            "8 MiB, 8388608 bytes: ",
+            "16 MiB, 16777216 bytes: ",
+        ] {
+            let told = page.contains(&format!("\n  {size}"));
+            assert_eq!(told, [2, 7].contains(&number), "{number}: {size}");
         }
     }
 }

@@ -346,7 +346,7 @@ entry.name null
 entry.subprogram 0
 entry.size 257
 entry.mode 1
-entry.location \"0x2ff00\"
+entry.location \"0x7ff00\"
 entry.place null
 entry.length null
 entry.refused 7

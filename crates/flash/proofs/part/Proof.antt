@@ -11,8 +11,8 @@ use Rattle.flash.proofs.Ways.{opened-small}
 use Rattle.flash.proofs.part.Statement.{statement}
 use Rattle.flash.proofs.part.Tie as tie
 
-base-rules-requires : tie.Need-base-rules-requires
-base-rules-requires c κs = search needs
+rules-of-requires : tie.Need-rules-of-requires
+rules-of-requires c κs = search needs
 
 flash-directory-requires : tie.Need-flash-directory-requires
 flash-directory-requires c κs = search needs
@@ -33,9 +33,9 @@ returns c =
     let a = b .before .before .args in
     let s = now (a .image) in
     let d = c .before .before .d .given in
-    c .part-in .ensures ∙ sized-passed s _ (opened-small (b .base-rules .result) s (d .0 .0) (a .level) (sym (f .flash-directory .ensures) ∙ ap toldDirectory (d .1)) .0)
-    ∙ then-told toldDirectory (λ d. partIn (b .base-rules .result .kind) (b .base-rules .result .window) s d (a .i)) (c .before .before .d .given .1) (f .flash-directory .ensures)
-    ∙ ap (λ (r : Rules). flashPart r (a .level) s (a .i)) (b .base-rules .ensures)
+    c .part-in .ensures ∙ sized-passed s _ (opened-small (b .rules-of .result) s (d .0 .0) (a .level) (sym (f .flash-directory .ensures) ∙ ap toldDirectory (d .1)) .0)
+    ∙ then-told toldDirectory (λ d. partIn (b .rules-of .result .kind) (b .rules-of .result .window) s d (a .i)) (c .before .before .d .given .1) (f .flash-directory .ensures)
+    ∙ ap (λ (r : Rules). flashPart r (a .level) s (a .i)) (b .rules-of .ensures)
 
 returns-2 : tie.Need-returns-2
 returns-2 c =
@@ -43,14 +43,14 @@ returns-2 c =
     let b = f .before in
     let a = b .before .before .args in
     let s = now (a .image) in
-    then-told toldDirectory (λ d. partIn (b .base-rules .result .kind) (b .base-rules .result .window) s d (a .i)) (c .before .why .given .1) (f .flash-directory .ensures)
-    ∙ ap (λ (r : Rules). flashPart r (a .level) s (a .i)) (b .base-rules .ensures)
+    then-told toldDirectory (λ d. partIn (b .rules-of .result .kind) (b .rules-of .result .window) s d (a .i)) (c .before .why .given .1) (f .flash-directory .ensures)
+    ∙ ap (λ (r : Rules). flashPart r (a .level) s (a .i)) (b .rules-of .ensures)
 
 pub part-spec : {M : Type 1} → statement M
 part-spec =
     tie.close
     (tie.spec
-    base-rules-requires
+    rules-of-requires
     flash-directory-requires
     enum-known-d
     part-in-requires

@@ -3,7 +3,7 @@ use denote.Ref.{now}
 use Rattle.reply.proofs.ReplyLaws.{passed, then-told}
 use Rattle.directory.specs.declared.Kind.{Kind}
 use Rattle.entries.specs.Entry.{leadIn, toldEntry}
-use Rattle.efs.specs.Rules.{baseRules}
+use Rattle.efs.specs.Rules.{rulesOf}
 use Rattle.repeats.specs.Repeats.{repeatsLed}
 use borrow.Author.Needs.{needs}
 use Rattle.repeats.proofs.repeats_below.Statement.{statement}
@@ -31,7 +31,7 @@ returns c =
     let a = b .args in
     let s = now (a .image) in
     let lead = l .lead-in .ensures ∙ ap (λ (k : Kind). leadIn k s (a .d)) (l .before .psp-kind .ensures) in
-    c .repeats-led .ensures ∙ passed _ _ _ _ (b .pre) ∙ then-told toldEntry (repeatsLed baseRules s (a .d)) (c .before .before .e .given .1) lead
+    c .repeats-led .ensures ∙ passed _ _ _ _ (b .pre) ∙ then-told toldEntry (repeatsLed (rulesOf s) s (a .d)) (c .before .before .e .given .1) lead
 
 returns-2 : tie.Need-returns-2
 returns-2 c =
@@ -39,7 +39,7 @@ returns-2 c =
     let a = l .before .before .before .args in
     let s = now (a .image) in
     let lead = l .lead-in .ensures ∙ ap (λ (k : Kind). leadIn k s (a .d)) (l .before .psp-kind .ensures) in
-    then-told toldEntry (repeatsLed baseRules s (a .d)) (c .before .why .given .1) lead
+    then-told toldEntry (repeatsLed (rulesOf s) s (a .d)) (c .before .why .given .1) lead
 
 pub repeats-below-spec : {M : Type 1} → statement M
 repeats-below-spec =

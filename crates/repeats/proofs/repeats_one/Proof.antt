@@ -4,7 +4,7 @@ use Rattle.reply.proofs.ReplyLaws.{then-told}
 use Rattle.directory.specs.Repeat.{repeatedAt}
 use Rattle.directory.specs.declared.Kind.{Kind}
 use Rattle.efs.specs.Efs.{toldPointer}
-use Rattle.efs.specs.Rules.{baseRules}
+use Rattle.efs.specs.Rules.{rulesOf}
 use borrow.Author.Needs.{needs}
 use Rattle.repeats.proofs.repeats_one.Statement.{statement}
 use Rattle.repeats.proofs.repeats_one.Tie as tie
@@ -31,7 +31,7 @@ returns c =
     let a = l .before .before .args in
     let s = now (a .image) in
     c .repeated-at .ensures ∙ ap (λ (k : Kind). repeatedAt k 512 1 s (p .p .given .0 .0 .place .0)) (c .before .psp-kind .ensures)
-    ∙ then-told toldPointer (λ q. repeatedAt (baseRules .kind) 512 1 s (q .place .0)) (p .p .given .1) (l .flash-pointer .ensures)
+    ∙ then-told toldPointer (λ q. repeatedAt (rulesOf s .kind) 512 1 s (q .place .0)) (p .p .given .1) (l .flash-pointer .ensures)
 
 returns-2 : tie.Need-returns-2
 returns-2 c = then-told toldPointer _ (c .before .why .given .1) (c .before .before .before .flash-pointer .ensures)

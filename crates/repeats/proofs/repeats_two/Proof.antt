@@ -2,7 +2,7 @@ use mathlib.Core.Path.{_≡_, sym, ap, _∙_}
 use denote.Ref.{now}
 use Rattle.reply.proofs.ReplyLaws.{then-told}
 use Rattle.directory.specs.Directory.{toldDirectory}
-use Rattle.efs.specs.Rules.{baseRules}
+use Rattle.efs.specs.Rules.{rulesOf}
 use Rattle.window.proofs.Length.{allowed-test}
 use Rattle.flash.proofs.Ways.{opened}
 use Rattle.repeats.specs.Repeats.{repeatsBelow}
@@ -21,7 +21,7 @@ repeats-below-requires c κs =
     let p = c .before in
     let l = p .before .before in
     let a = l .before .before .args in
-    allowed-test (now (a .image)) (opened baseRules (now (a .image)) (p .d .given .0 .0) 1 (sym (l .directory .ensures) ∙ ap toldDirectory (p .d .given .1)) .0)
+    allowed-test (now (a .image)) (opened (rulesOf (now (a .image))) (now (a .image)) (p .d .given .0 .0) 1 (sym (l .directory .ensures) ∙ ap toldDirectory (p .d .given .1)) .0)
 
 enum-known-why : tie.Need-enum-known-why
 enum-known-why c = search needs
@@ -30,7 +30,7 @@ returns : tie.Need-returns
 returns c =
     let l = c .before .before .before .before in
     let a = l .before .before .args in
-    c .repeats-below .ensures ∙ then-told toldDirectory (repeatsBelow baseRules (now (a .image))) (c .before .before .d .given .1) (l .directory .ensures)
+    c .repeats-below .ensures ∙ then-told toldDirectory (repeatsBelow (rulesOf (now (a .image))) (now (a .image))) (c .before .before .d .given .1) (l .directory .ensures)
 
 returns-2 : tie.Need-returns-2
 returns-2 c = then-told toldDirectory _ (c .before .why .given .1) (c .before .before .before .directory .ensures)

@@ -6,7 +6,7 @@ use Rattle.reply.specs.Reply.{Reply}
 use Rattle.lent.specs.Lent.{numberLeft, wordsLeft, layNumber}
 use Rattle.lent.proofs.Laws.{alone-number, alone-words}
 use Rattle.entries.specs.Part.{toldPart}
-use Rattle.efs.specs.Rules.{baseRules}
+use Rattle.efs.specs.Rules.{rulesOf}
 use Rattle.flash.specs.Flash.{flashPart}
 use Rattle.version_words.proofs.There.{version-there, version-none}
 use borrow.Author.Needs.{needs}
@@ -42,7 +42,7 @@ returns c =
     let f = t .before .before in
     let a = f .before .before .before .args in
     let s = now (a .image) in
-    let is = version-there s _ (flashPart baseRules (a .level) s (a .index)) _ (sym (f .part .ensures) ∙ ap toldPart (t .enum-told .given .1)) (b .bytes .ensures .0) in
+    let is = version-there s _ (flashPart (rulesOf s) (a .level) s (a .index)) _ (sym (f .part .ensures) ∙ ap toldPart (t .enum-told .given .1)) (b .bytes .ensures .0) in
     (v .version .ensures .0 ∙ ap (λ (r : Reply ℕ). numberLeft layNumber r (now (a .words))) is, v .version .ensures .1 ∙ ap (λ (r : Reply ℕ). wordsLeft layNumber r (now (a .words))) is)
 
 returns-2 : tie.Need-returns-2
@@ -51,7 +51,7 @@ returns-2 c =
     let f = w .before .before in
     let a = f .before .before .before .args in
     let s = now (a .image) in
-    let none = version-none s (flashPart baseRules (a .level) s (a .index)) _ (sym (f .part .ensures) ∙ ap toldPart (w .why .given .1)) in
+    let none = version-none s (flashPart (rulesOf s) (a .level) s (a .index)) _ (sym (f .part .ensures) ∙ ap toldPart (w .why .given .1)) in
     (alone-number layNumber _ _ _ none, alone-words layNumber _ _ _ none)
 
 pub entry-spec : {M : Type 1} → statement M

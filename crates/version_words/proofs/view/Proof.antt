@@ -8,7 +8,7 @@ use Rattle.lent.proofs.Laws.{alone-number, alone-words}
 use Rattle.window.specs.declared.Offset.{Offset}
 use Rattle.entries.specs.Part.{toldPart, bytesOf}
 use Rattle.entries.specs.declared.Part.{Part}
-use Rattle.efs.specs.Rules.{baseRules}
+use Rattle.efs.specs.Rules.{rulesOf}
 use Rattle.place.specs.Place.{partAt}
 use Rattle.place.proofs.View.{nearest-place}
 use Rattle.version_words.proofs.There.{version-there, version-none}
@@ -48,8 +48,8 @@ returns c =
     let f = t .before .before in
     let a = f .before .before .before .before .args in
     let s = now (a .image) in
-    let near = ap (λ (o : Offset). partAt baseRules s (o .0) (a .i)) (f .before .nearest .ensures) ∙ nearest-place .part baseRules s (a .place) (a .i) in
-    let is = version-there s _ (partAt baseRules s (a .place) (a .i)) _ (sym (f .part-from .ensures ∙ near) ∙ ap toldPart (t .enum-told .given .1)) (b .bytes-from .ensures .0 ∙ ap (bytesOf s) near) in
+    let near = ap (λ (o : Offset). partAt (rulesOf s) s (o .0) (a .i)) (f .before .nearest .ensures) ∙ nearest-place .part (rulesOf s) s (a .place) (a .i) in
+    let is = version-there s _ (partAt (rulesOf s) s (a .place) (a .i)) _ (sym (f .part-from .ensures ∙ near) ∙ ap toldPart (t .enum-told .given .1)) (b .bytes-from .ensures .0 ∙ ap (bytesOf s) near) in
     (v .version .ensures .0 ∙ ap (λ (r : Reply ℕ). numberLeft layNumber r (now (a .words))) is, v .version .ensures .1 ∙ ap (λ (r : Reply ℕ). wordsLeft layNumber r (now (a .words))) is)
 
 returns-2 : tie.Need-returns-2
@@ -58,8 +58,8 @@ returns-2 c =
     let f = w .before .before in
     let a = f .before .before .before .before .args in
     let s = now (a .image) in
-    let near = ap (λ (o : Offset). partAt baseRules s (o .0) (a .i)) (f .before .nearest .ensures) ∙ nearest-place .part baseRules s (a .place) (a .i) in
-    let none = version-none s (partAt baseRules s (a .place) (a .i)) _ (sym (f .part-from .ensures ∙ near) ∙ ap toldPart (w .why .given .1)) in
+    let near = ap (λ (o : Offset). partAt (rulesOf s) s (o .0) (a .i)) (f .before .nearest .ensures) ∙ nearest-place .part (rulesOf s) s (a .place) (a .i) in
+    let none = version-none s (partAt (rulesOf s) s (a .place) (a .i)) _ (sym (f .part-from .ensures ∙ near) ∙ ap toldPart (w .why .given .1)) in
     (alone-number layNumber _ _ _ none, alone-words layNumber _ _ _ none)
 
 pub view-spec : {M : Type 1} → statement M

@@ -21,7 +21,7 @@ use denote.Struct.Struct.{twices}
 use denote.Triple.Spec.{tripleOf}
 use denote.Triple.Statement.{Triple}
 use denote.Triple.Table.{entered, cited}
-use Rattle.efs.specs.Rules.{baseRules}
+use Rattle.efs.specs.Rules.{rulesOf}
 use Rattle.place.specs.Place.{viewImage, viewPlace}
 use Rattle.place.proofs.held as held
 use Rattle.place.proofs.held.Symbol as held-def
@@ -42,10 +42,10 @@ use Rattle.view.proofs.view_of.Code as code
 
 -- what the two callees promise
 abbrev image-held : Promise
-image-held = record { params = image ∷ level ∷ []; result = image .value; Said = λ κs a r. (now r ≡ viewImage baseRules (a .1 .0) (now (a .0))) × (r .ptr ≡ a .0 .ptr) }
+image-held = record { params = image ∷ level ∷ []; result = image .value; Said = λ κs a r. (now r ≡ viewImage (rulesOf (now (a .0))) (a .1 .0) (now (a .0))) × (r .ptr ≡ a .0 .ptr) }
 
 abbrev place-held : Promise
-place-held = record { params = image ∷ level ∷ []; result = place .value; Said = λ κs a r. r ≡ viewPlace baseRules (a .1 .0) (now (a .0)) }
+place-held = record { params = image ∷ level ∷ []; result = place .value; Said = λ κs a r. r ≡ viewPlace (rulesOf (now (a .0))) (a .1 .0) (now (a .0)) }
 
 says : Says (made of-level) (λ M. view-of.clauses)
 says M 𝓤 H A mem run κs a = refl

@@ -3,7 +3,7 @@ use denote.Ref.{now}
 use Rattle.lent.proofs.Laws.{given-number, given-words, alone-number, alone-words}
 use Rattle.window.specs.declared.Offset.{Offset}
 use Rattle.entries.specs.Entry.{toldEntry}
-use Rattle.efs.specs.Rules.{baseRules}
+use Rattle.efs.specs.Rules.{rulesOf}
 use Rattle.place.specs.Place.{entryAt}
 use Rattle.place.proofs.View.{nearest-place}
 use Rattle.flash_words.specs.Images.{layEntry}
@@ -54,7 +54,7 @@ returns c =
     let f = m .before .before in
     let a = f .before .before .before .before .args in
     let s = now (a .image) in
-    let asked = f .entry-from .ensures ∙ ap (λ (o : Offset). entryAt baseRules s (o .0) (a .i)) (f .before .nearest .ensures) ∙ nearest-place .entry baseRules s (a .place) (a .i) in
+    let asked = f .entry-from .ensures ∙ ap (λ (o : Offset). entryAt (rulesOf s) s (o .0) (a .i)) (f .before .nearest .ensures) ∙ nearest-place .entry (rulesOf s) s (a .place) (a .i) in
     let gives = sym asked ∙ ap toldEntry (m .e .given .1) in
     (given-number layEntry _ _ (m .e .given .0 .0) _ gives (p .0), given-words layEntry _ _ (m .e .given .0 .0) _ gives (p .1))
 
@@ -64,7 +64,7 @@ returns-2 c =
     let f = m .before .before in
     let a = f .before .before .before .before .args in
     let s = now (a .image) in
-    let asked = f .entry-from .ensures ∙ ap (λ (o : Offset). entryAt baseRules s (o .0) (a .i)) (f .before .nearest .ensures) ∙ nearest-place .entry baseRules s (a .place) (a .i) in
+    let asked = f .entry-from .ensures ∙ ap (λ (o : Offset). entryAt (rulesOf s) s (o .0) (a .i)) (f .before .nearest .ensures) ∙ nearest-place .entry (rulesOf s) s (a .place) (a .i) in
     let refuses = sym asked ∙ ap toldEntry (m .why .given .1) in
     (alone-number layEntry _ _ _ refuses, alone-words layEntry _ _ _ refuses)
 

@@ -3,7 +3,7 @@ use denote.Ref.{now}
 use Rattle.lent.proofs.Laws.{given-number, given-words, alone-number, alone-words}
 use Rattle.window.specs.declared.Offset.{Offset}
 use Rattle.entries.specs.Part.{toldPart}
-use Rattle.efs.specs.Rules.{baseRules}
+use Rattle.efs.specs.Rules.{rulesOf}
 use Rattle.place.specs.Place.{partAt}
 use Rattle.place.proofs.View.{nearest-place}
 use Rattle.flash_words.specs.Images.{layPart}
@@ -45,7 +45,7 @@ returns c =
     let f = m .before .before in
     let a = f .before .before .before .before .args in
     let s = now (a .image) in
-    let asked = f .part-from .ensures ∙ ap (λ (o : Offset). partAt baseRules s (o .0) (a .i)) (f .before .nearest .ensures) ∙ nearest-place .part baseRules s (a .place) (a .i) in
+    let asked = f .part-from .ensures ∙ ap (λ (o : Offset). partAt (rulesOf s) s (o .0) (a .i)) (f .before .nearest .ensures) ∙ nearest-place .part (rulesOf s) s (a .place) (a .i) in
     let gives = sym asked ∙ ap toldPart (m .p .given .1) in
     (given-number layPart _ _ (m .p .given .0 .0) _ gives (p .0), given-words layPart _ _ (m .p .given .0 .0) _ gives (p .1))
 
@@ -55,7 +55,7 @@ returns-2 c =
     let f = m .before .before in
     let a = f .before .before .before .before .args in
     let s = now (a .image) in
-    let asked = f .part-from .ensures ∙ ap (λ (o : Offset). partAt baseRules s (o .0) (a .i)) (f .before .nearest .ensures) ∙ nearest-place .part baseRules s (a .place) (a .i) in
+    let asked = f .part-from .ensures ∙ ap (λ (o : Offset). partAt (rulesOf s) s (o .0) (a .i)) (f .before .nearest .ensures) ∙ nearest-place .part (rulesOf s) s (a .place) (a .i) in
     let refuses = sym asked ∙ ap toldPart (m .why .given .1) in
     (alone-number layPart _ _ _ refuses, alone-words layPart _ _ _ refuses)
 

@@ -6,15 +6,26 @@ use super::draft::Draft;
 use super::words::{hex, number};
 use crate::random::Random;
 
-/// Where an EFS is looked for, in the order in which it is, and how many bytes of it must lie in the image.
+/// Where an EFS is looked for, as physical addresses in the order in which it is, and how many bytes it has.
 const CANDIDATES: [u64; 6] = [
-    0xFA_0000, 0xF2_0000, 0xE2_0000, 0xC2_0000, 0x82_0000, 0x02_0000,
+    0xFFFA_0000,
+    0xFFF2_0000,
+    0xFFE2_0000,
+    0xFFC2_0000,
+    0xFF82_0000,
+    0xFF02_0000,
 ];
 const EFS_BYTES: u64 = 0x24;
 
-/// The most bytes of an image, and the physical address of its first byte.
+/// Where the physical addresses of every image end: at 4 GiB.
+const WINDOW_END: u64 = 1 << 32;
+
+/// The most bytes of an image, and the lengths that boards have.
 const MOST_BYTES: u64 = 16_777_216;
-const WINDOW: u64 = 0xFF00_0000;
+const BOARDS: [u64; 3] = [MOST_BYTES / 4, MOST_BYTES / 2, MOST_BYTES];
+
+/// Where a window would begin if it were of the most bytes for every image.
+const WIDEST_WINDOW: u64 = WINDOW_END - MOST_BYTES;
 
 /// An image with more bytes than this takes long to make.
 const LARGE: u64 = 0x10_0000;
@@ -31,7 +42,7 @@ struct Part {
 /// An image, zero but for its parts.
 pub struct Image {
     pub length: u64,
-    /// Where its own EFS lies, if it has one.
+    /// The candidate at which its own EFS is, if it has one.
     efs: Option<u64>,
     /// A later part is written over an earlier one.
     parts: Vec<Part>,
@@ -47,15 +58,19 @@ impl Image {
         if random.once_in(16) {
             return Image::without_efs(random);
         }
-        let efs = match random.below(20) {
-            0 => random.one_of(&CANDIDATES),
-            _ => CANDIDATES[5],
+        let any = random.one_of(&CANDIDATES);
+        let (efs, length) = match random.below(32) {
+            // A length that boards have, or any: the candidate may lie below the window.
+            0 => (any, random.one_of(&BOARDS)),
+            1 => (any, 1 + random.below(MOST_BYTES)),
+            // Just enough to bring it into the window, a byte less or a byte more.
+            2 => (any, least_length(any) - 1 + random.below(3)),
+            _ => (CANDIDATES[0], short_length(random)),
         };
-        let length = length_for(random, efs);
         Image::with_efs(random, efs, length)
     }
 
-    /// An image of a length with an EFS at a place.
+    /// An image of a length with an EFS at a candidate.
     fn with_efs(random: &mut Random, efs: u64, length: u64) -> Image {
         let mut image = Image {
             length,
@@ -91,20 +106,36 @@ impl Image {
 
     /// An image of a length on the edge of some rule, with no EFS, or half of one.
     fn without_efs(random: &mut Random) -> Image {
-        let least = CANDIDATES[5] + EFS_BYTES;
-        let lengths = [0, 0, 0, 0, 1, 0x24, 0x2_0000, least - 1, least, least + 1];
+        let least = least_length(CANDIDATES[0]);
+        // Of those below the least the last two would do, if the window were of the most bytes.
+        let below = [1, 0x24, 0x2_0023, 0x2_0024];
+        let lengths = [
+            0,
+            0,
+            0,
+            0,
+            random.one_of(&below),
+            least - 1,
+            least,
+            least + 1,
+        ];
         let length = random.one_of(&lengths);
         let signature = random.one_of(&[[0xAA, 0x55, 0xAA, 0x55], [0x55, 0xAA, 0x55, 0xAA]]);
+        let places = [length.saturating_sub(least), CANDIDATES[5] - WIDEST_WINDOW];
+        let mut parts = vec![plain_part(0, random.bytes(64))];
+        parts.extend(places.map(|place| plain_part(place, signature.to_vec())));
         Image {
             length,
             efs: None,
-            parts: vec![
-                plain_part(CANDIDATES[5], signature.to_vec()),
-                plain_part(0, random.bytes(64)),
-            ],
+            parts,
             broken: None,
             directories: vec![(0, Directory::of(1, Vec::new()))],
         }
+    }
+
+    /// The physical address of the first byte.
+    pub fn window(&self) -> u64 {
+        WINDOW_END - self.length
     }
 
     fn add_directories(&mut self, random: &mut Random) {
@@ -123,7 +154,7 @@ impl Image {
         let entries = (0..amount).map(|_| match below.len() as u64 {
             leads if leads > 0 && random.once_in(2) => {
                 let to = below[random.below(leads) as usize].0;
-                lead_entry(random, place, to)
+                self.lead_entry(random, place, to)
             }
             _ => self.part_entry(random, place),
         });
@@ -140,7 +171,7 @@ impl Image {
             0 => 0,
             1 => end,
             2 => end + 1,
-            3 => random.one_of(&[self.length - 16, self.length - 15]),
+            3 => self.length.saturating_sub(random.one_of(&[1, 15, 16])),
             4 => random.one_of(&[self.length, self.length + 1]),
             _ => random.below(0x1_0000),
         }
@@ -168,7 +199,41 @@ impl Image {
             subprogram: random.one_of(&SUBPROGRAMS),
             reserved: 0,
             size,
-            word: aimed(random, directory, start, astray),
+            word: self.aimed(random, directory, start, astray),
+        }
+    }
+
+    /// An entry of level one that leads to a place.
+    fn lead_entry(&self, random: &mut Random, directory: u64, to: u64) -> Entry {
+        let astray = random.once_in(4);
+        Entry {
+            class: LEAD,
+            subprogram: random.one_of(&SUBPROGRAMS),
+            reserved: 0,
+            size: random.one_of(&[0, 0x400, u32::MAX]),
+            word: self.aimed(random, directory, to, astray),
+        }
+    }
+
+    /// The location and mode that lead from a directory to a place, or astray.
+    fn aimed(&self, random: &mut Random, directory: u64, to: u64, astray: bool) -> u64 {
+        const MODE: u64 = 1 << 62;
+        let window = self.window();
+        if !astray {
+            let from_directory = to.wrapping_sub(directory) & (MODE - 1);
+            return random.one_of(&[window + to, to | MODE, from_directory | 2 * MODE]);
+        }
+        match random.below(12) {
+            0..=3 => random.number() | 3 * MODE,
+            4 => random.number(),
+            // What would lead there if the image's length, the window, 32 bits or the directory did not count.
+            5 => WIDEST_WINDOW + to,
+            6 => to,
+            7 => (window + to) | MODE,
+            8 => (window + to + (1 << 32)) & (MODE - 1),
+            9 => (to + (1 << 32)) | MODE,
+            // The window's first address and its last, and those before and behind.
+            _ => random.one_of(&[window - 1, window, WINDOW_END - 1, WINDOW_END]),
         }
     }
 
@@ -176,20 +241,67 @@ impl Image {
     fn add_efs(&mut self, random: &mut Random, efs: u64) {
         let root = self.directories[0].0;
         // Others, which are found before or after it, and lead elsewhere.
-        let others = match efs == CANDIDATES[5] {
+        let others = match efs == CANDIDATES[0] {
             true => random.below(5) / 4,
             false => random.below(4),
         };
         for _ in 0..others {
             let other = random.one_of(&CANDIDATES);
-            let to = random.below(self.length);
-            self.parts.push(plain_part(other, efs_bytes(random, to)));
+            let (place, to) = (self.efs_place(random, other), random.below(self.length));
+            let bytes = self.efs_bytes(random, to);
+            self.parts.push(plain_part(place, bytes));
         }
-        let mut bytes = efs_bytes(random, root);
+        let mut bytes = self.efs_bytes(random, root);
         if random.once_in(40) {
             bytes[random.below(4) as usize] ^= 1 << random.below(8);
         }
-        self.parts.push(plain_part(efs, bytes));
+        let place = self.efs_place(random, efs);
+        self.parts.push(plain_part(place, bytes));
+    }
+
+    /// Where an EFS is written for a candidate. One below the window has no place, and is none wherever it stands: it is written where a
+    /// window that begins earlier would have it.
+    fn efs_place(&self, random: &mut Random, candidate: u64) -> u64 {
+        match candidate.checked_sub(self.window()) {
+            Some(place) if !random.once_in(60) => place,
+            _ => random.one_of(&[0, candidate - WIDEST_WINDOW]),
+        }
+    }
+
+    /// An EFS whose pointers lead to a place, mostly.
+    fn efs_bytes(&self, random: &mut Random, to: u64) -> Vec<u8> {
+        let mut bytes = vec![random.one_of(&[0, 0, 0xFF, 0x11]); EFS_BYTES as usize];
+        bytes[..4].copy_from_slice(&[0xAA, 0x55, 0xAA, 0x55]);
+        let (length, window) = (self.length, self.window());
+        let good = random.one_of(&[to, window + to, window + to]) as u32;
+        let absent = random.one_of(&[0, 0xFFFF_FFFF]);
+        let strange = [
+            // About the ends of what is a flash offset and of what is physical, for this length and for the most bytes.
+            length - 1,
+            length,
+            window - 1,
+            window,
+            WINDOW_END - 2,
+            MOST_BYTES - 1,
+            MOST_BYTES,
+            WIDEST_WINDOW - 1,
+            WIDEST_WINDOW,
+            WIDEST_WINDOW + to,
+            0x1234_5678,
+            1,
+        ];
+        let bad = random.one_of(&strange) as u32;
+        let (early, late) = match random.below(30) {
+            0 => (absent, absent),
+            1 | 2 => (good, bad),
+            3 => (bad, absent),
+            4..=12 => (good, absent),
+            13..=21 => (bad, good),
+            _ => (absent, good),
+        };
+        bytes[0x10..0x14].copy_from_slice(&early.to_le_bytes());
+        bytes[0x14..0x18].copy_from_slice(&late.to_le_bytes());
+        bytes
     }
 
     /// Puts an entry of type 0x40 into a level two that there is.
@@ -203,11 +315,12 @@ impl Image {
     }
 
     /// How many times calls are asked of the image, which is changed between. A large one takes long to make, and so is
-    /// used for longer.
+    /// used for longer, if its EFS is found.
     pub fn rounds(&self, random: &mut Random) -> u64 {
+        let found = self.efs.map_or(false, |efs| efs >= self.window());
         match self.length {
             0 => 1,
-            length if length > LARGE && length <= MOST_BYTES => 14,
+            length if length > LARGE && length <= MOST_BYTES && found => 6,
             _ => 1 + random.below(2),
         }
     }
@@ -306,12 +419,17 @@ fn plain_part(place: u64, bytes: Vec<u8>) -> Part {
     }
 }
 
-/// The length of an image with an EFS at a place: just enough for it, a little more or less, or on the edge of what is allowed.
-fn length_for(random: &mut Random, efs: u64) -> u64 {
-    let least = efs + EFS_BYTES;
+/// The length of the shortest image whose window a candidate lies in.
+fn least_length(candidate: u64) -> u64 {
+    WINDOW_END - candidate
+}
+
+/// The length of an image with an EFS at the first candidate, which needs the fewest bytes: just enough for it, a little more or a byte
+/// less, or more than is allowed.
+fn short_length(random: &mut Random) -> u64 {
+    let least = least_length(CANDIDATES[0]);
     match random.below(120) {
-        0 | 1 => least - 1,
-        2 => MOST_BYTES,
+        0..=2 => least - 1,
         3 => MOST_BYTES + 1,
         4..=23 => least,
         _ => least + random.below(0x4000),
@@ -328,63 +446,145 @@ fn amount_of_entries(random: &mut Random) -> u64 {
     }
 }
 
-/// An entry of level one that leads to a place.
-fn lead_entry(random: &mut Random, directory: u64, to: u64) -> Entry {
-    let astray = random.once_in(4);
-    Entry {
-        class: LEAD,
-        subprogram: random.one_of(&SUBPROGRAMS),
-        reserved: 0,
-        size: random.one_of(&[0, 0x400, u32::MAX]),
-        word: aimed(random, directory, to, astray),
-    }
-}
+#[cfg(test)]
+mod tests {
+    use super::*;
 
-/// The location and mode that lead from a directory to a place, or astray.
-fn aimed(random: &mut Random, directory: u64, to: u64, astray: bool) -> u64 {
-    const MODE: u64 = 1 << 62;
-    if !astray {
-        let from_directory = to.wrapping_sub(directory) & (MODE - 1);
-        return random.one_of(&[WINDOW + to, to | MODE, from_directory | 2 * MODE]);
+    /// So many images that each kind is among them.
+    fn many_images() -> Vec<Image> {
+        let mut random = Random::from_seed(2);
+        (0..8000).map(|_| Image::random(&mut random)).collect()
     }
-    match random.below(8) {
-        0 | 1 => random.number() | 3 * MODE,
-        2 => random.number(),
-        // What would lead there if the window, 32 bits or the directory did not count.
-        3 => to,
-        4 => (WINDOW + to) | MODE,
-        5 => (WINDOW + to + (1 << 32)) & (MODE - 1),
-        6 => (to + (1 << 32)) | MODE,
-        _ => random.one_of(&[WINDOW - 1, WINDOW, 0xFFFF_FFFF, 0x1_0000_0000]),
-    }
-}
 
-/// An EFS whose pointers lead to a place, mostly.
-fn efs_bytes(random: &mut Random, to: u64) -> Vec<u8> {
-    let mut bytes = vec![random.one_of(&[0, 0, 0xFF, 0x11]); EFS_BYTES as usize];
-    bytes[..4].copy_from_slice(&[0xAA, 0x55, 0xAA, 0x55]);
-    let offset = to as u32;
-    let physical = (WINDOW + to) as u32;
-    let good = random.one_of(&[offset, physical, physical]);
-    let absent = random.one_of(&[0, 0xFFFF_FFFF]);
-    let strange = [
-        0x0100_0000,
-        0x1234_5678,
-        0xFEFF_FFFF,
-        0x00FF_FFFF,
-        0xFF00_0000,
-        1,
-    ];
-    let bad = random.one_of(&strange);
-    let (early, late) = match random.below(30) {
-        0 => (absent, absent),
-        1 => (good, bad),
-        2 => (bad, absent),
-        3..=12 => (good, absent),
-        13..=21 => (bad, good),
-        _ => (absent, good),
-    };
-    bytes[0x10..0x14].copy_from_slice(&early.to_le_bytes());
-    bytes[0x14..0x18].copy_from_slice(&late.to_le_bytes());
-    bytes
+    /// The image's own EFS: of the parts that are no directories the last.
+    fn own_efs(image: &Image) -> &Part {
+        let efs = image.parts.iter().rev().find(|part| !part.is_directory);
+        efs.expect("every image has an EFS, or half of one")
+    }
+
+    /// Of the numbers that are wanted of every image, which follow from its length, each is among those that it has in five images or more.
+    /// In images of the most bytes nothing differs from a window of as many for all, so they do not count.
+    fn each_comes(
+        told: &str,
+        wanted: impl Fn(&Image) -> Vec<u64>,
+        has: impl Fn(&Image) -> Vec<u64>,
+    ) {
+        let mut amounts: Vec<usize> = Vec::new();
+        for image in many_images() {
+            if image.efs.is_some() && image.length < MOST_BYTES {
+                let has = has(&image);
+                let came = wanted(&image)
+                    .into_iter()
+                    .map(|number| has.contains(&number));
+                let came: Vec<bool> = came.collect();
+                amounts.resize(came.len(), 0);
+                for (amount, came) in amounts.iter_mut().zip(came) {
+                    *amount += usize::from(came);
+                }
+            }
+        }
+        assert!(
+            amounts.iter().all(|amount| *amount >= 5),
+            "{told}: {amounts:?}"
+        );
+    }
+
+    #[test]
+    fn every_candidate_is_just_in_the_window_and_just_out_of_it() {
+        let images = many_images();
+        for candidate in CANDIDATES {
+            let least = least_length(candidate);
+            for length in [least - 1, least, least + 1] {
+                let fits = |image: &&Image| (image.efs, image.length) == (Some(candidate), length);
+                let amount = images.iter().filter(fits).count();
+                assert!(amount >= 5, "{candidate:#x} in {length:#x} bytes: {amount}");
+            }
+        }
+    }
+
+    #[test]
+    fn boards_of_4_8_and_16_mib_come_and_most_images_are_short() {
+        let images = many_images();
+        let amount = |fits: &dyn Fn(u64) -> bool| {
+            let lengths = images.iter().map(|image| image.length);
+            lengths.filter(|length| fits(*length)).count()
+        };
+        for mib in [4, 8, 16] {
+            let board = amount(&|length| length == mib << 20);
+            assert!(board >= 50, "{board} images have {mib} MiB");
+        }
+        assert!(amount(&|length| length > MOST_BYTES) >= 5);
+        let short = amount(&|length| length <= 0x6_4000);
+        assert!(short > images.len() * 4 / 5, "{short} images are short");
+    }
+
+    #[test]
+    fn an_efs_in_the_window_is_mostly_where_the_window_has_it() {
+        let (mut there, mut astray, mut below) = (0, 0, 0);
+        for image in many_images() {
+            let efs = match image.efs {
+                Some(efs) if image.length <= MOST_BYTES => efs,
+                _ => continue,
+            };
+            let place = Some(own_efs(&image).place);
+            match efs.checked_sub(WINDOW_END - image.length) {
+                None => below += 1,
+                due if due == place => there += 1,
+                _ => astray += 1,
+            }
+        }
+        assert!(there > 6500, "{there} are in their place");
+        assert!(astray >= 20, "{astray} are astray");
+        assert!(
+            below >= 100,
+            "{below} have none, since their window begins above it"
+        );
+    }
+
+    #[test]
+    fn pointers_come_on_both_sides_of_every_limit() {
+        let limits = |image: &Image| {
+            let window = WINDOW_END - image.length;
+            vec![
+                image.length - 1,
+                image.length,
+                window - 1,
+                window,
+                WINDOW_END - 2,
+                // What would lead to level one if the window were of the most bytes.
+                WIDEST_WINDOW + image.directories[0].0,
+            ]
+        };
+        let pointers = |image: &Image| {
+            let fields = own_efs(image).bytes[0x10..0x18].chunks(4);
+            let values =
+                fields.map(|field| u32::from_le_bytes([field[0], field[1], field[2], field[3]]));
+            values.map(u64::from).collect()
+        };
+        each_comes("a pointer", limits, pointers);
+    }
+
+    #[test]
+    fn physical_locations_come_on_both_sides_of_every_limit() {
+        let limits = |image: &Image| {
+            let window = WINDOW_END - image.length;
+            vec![window - 1, window, WINDOW_END - 1, WINDOW_END]
+        };
+        let of_class = |lead: bool| {
+            move |image: &Image| {
+                let entries = image.directories.iter().flat_map(|(_, one)| &one.entries);
+                let entries = entries.filter(|entry| (entry.class == LEAD) == lead);
+                // Those of mode 0 are the word itself.
+                entries.map(|entry| entry.word).collect()
+            }
+        };
+        each_comes("the location of a lead", limits, of_class(true));
+        each_comes("the location of a part", limits, of_class(false));
+        // What would lead to a level two if the window were of the most bytes.
+        let widest = |image: &Image| {
+            let last = image.directories.last().map_or(0, |(place, _)| *place);
+            vec![WIDEST_WINDOW + last]
+        };
+        each_comes("the location of a lead", widest, of_class(true));
+    }
 }

@@ -48,7 +48,8 @@ fn place(random: &mut Random, image: &Image) -> u64 {
     let place = image.directories[at].0;
     match random.below(16) {
         0 => place + 1,
-        1 => place + (1 << 32),
+        // What would lead there if 32 bits counted alone, or if a place were a physical address.
+        1 => random.one_of(&[place + (1 << 32), image.window() + place]),
         2 => random.one_of(&[image.length, image.length + 1]),
         3 => image.length.saturating_sub(random.one_of(&[1, 15, 16, 17])),
         4 => u64::MAX - random.one_of(&[0, 7, 15, 16]),

@@ -432,20 +432,20 @@ fn what_does_not_fit_a_buffer_is_a_bad_line() {
 
 // Flash image
 
-/// An image made by the calls themselves: level one at 0x1000 with an entry that leads to level two
-/// at 0x2000, which holds two.
+/// The shortest image with an EFS, made by the calls themselves: level one at 0x1000 with an entry
+/// that leads to level two at 0x2000, which holds two.
 const TWO_LEVELS: &str = "
     buffer one 48
     start one 1
     extend one 1 0 0x100 0x1000 1
-    extend one 0x40 0 0 0xff002000 0
+    extend one 0x40 0 0 0xfffa2000 0
     buffer two 48
     start two 2
     extend two 0x0b 7 0xffffffff 0x3fffffffffffffff 3
     extend two 0x55 0 0x24 0 2
-    buffer a 0x20024
-    patch a 0x20000 aa55aa55
-    patch a 0x20014 00100000
+    buffer a 0x60000
+    patch a 0 aa55aa55
+    patch a 0x14 00100000
 ";
 
 fn two_levels() -> String {
@@ -499,8 +499,8 @@ fn flash_calls_answer_as_the_page_has_it() {
         ),
         ("view-bytes a 0x2000 1", "ok place=0x2000 length=36"),
         ("view-entry a 0x2001 1", "refused 2"),
-        ("view-entry a 0x20024 1", "refused 1"),
-        ("view-entry a 0x20025 1", "refused 7"),
+        ("view-entry a 0x60000 1", "refused 1"),
+        ("view-entry a 0x60001 1", "refused 7"),
         ("view-bytes a 0x2000 2", "refused 8"),
     ] {
         assert_eq!(last(&format!("{}{}", image, call)), answer, "{}", call);
@@ -509,7 +509,7 @@ fn flash_calls_answer_as_the_page_has_it() {
 
 #[test]
 fn an_absent_directory_is_8_with_a_count_from_lookups_alone() {
-    let image = format!("{}patch a 0x20014 00000000\n", two_levels());
+    let image = format!("{}patch a 0x14 00000000\n", two_levels());
     for (call, answer) in [
         ("find a 1 0 0", "refused 8 tested=0"),
         ("find a 2 0 0", "refused 8 tested=0"),

@@ -1,11 +1,25 @@
 use super::*;
 
-/// The offset of the last EFS candidate, the only one in a short image.
+/// Length of the short image of most tests: of the EFS candidates its window holds the first alone.
+const L: usize = 0x8_0000;
+/// Where that candidate and the two directories lie in it.
 const EFS: usize = 0x2_0000;
-/// Length of the short image of most tests, and where its two directories lie.
-const L: usize = 0x2_3000;
 const ONE: usize = 0x2_1000;
 const TWO: usize = 0x2_2000;
+
+const MIB: usize = 1 << 20;
+/// The lengths of flash parts that boards have.
+const PARTS: [usize; 3] = [4 * MIB, 8 * MIB, 16 * MIB];
+/// The EFS candidates of document 01, in its order.
+const CANDIDATES: [u64; 6] = [
+    0xFFFA_0000,
+    0xFFF2_0000,
+    0xFFE2_0000,
+    0xFFC2_0000,
+    0xFF82_0000,
+    0xFF02_0000,
+];
+const FOUR_GIB: u64 = 0x1_0000_0000;
 
 /// Fletcher's sum by two running sums: another way to it than the one under test.
 fn running_sums(bytes: &[u8]) -> u32 {
@@ -56,12 +70,22 @@ fn seal(image: &mut [u8], o: usize) {
     put(image, o + 4, &sum.to_le_bytes());
 }
 
-/// A short image with these entries in level one.
-fn image_of(entries: &[[u8; 16]]) -> Vec<u8> {
-    let mut image = vec![0; L];
-    put_efs(&mut image, EFS, ONE as u32, 0);
+/// The physical address of the first byte of an image of that length.
+fn physical(length: usize) -> u64 {
+    FOUR_GIB - length as u64
+}
+
+/// An image of that length with an EFS at the first candidate and these entries in level one at `ONE`.
+fn image_of_length(length: usize, entries: &[[u8; 16]]) -> Vec<u8> {
+    let mut image = vec![0; length];
+    put_efs(&mut image, length - 0x6_0000, ONE as u32, 0);
     put_directory(&mut image, ONE, b"$PSP", entries);
     image
+}
+
+/// A short image with these entries in level one.
+fn image_of(entries: &[[u8; 16]]) -> Vec<u8> {
+    image_of_length(L, entries)
 }
 
 /// A short image with level two behind a 0x40 entry between two others.
@@ -95,13 +119,34 @@ fn entry_of(kind: u8, location: u64, mode: u32) -> Entry {
 // The window
 
 #[test]
-fn the_window_is_sixteen_mebibytes_below_four_gibibytes() {
-    let offset = |address| PhysicalAddress(address).flash_offset();
-    assert_eq!(offset(0xFF00_0000), Ok(FlashOffset(0)));
-    assert_eq!(offset(0xFFFF_FFFF), Ok(FlashOffset(0xFF_FFFF)));
-    assert_eq!(number(offset(0xFEFF_FFFF)), 7);
-    assert_eq!(number(offset(0x1_0000_0000)), 7);
-    assert_eq!(number(offset(0)), 7);
+fn the_window_ends_at_four_gibibytes_and_is_as_long_as_the_image() {
+    for (length, first) in [
+        (1, 0xFFFF_FFFF),
+        (2, 0xFFFF_FFFE),
+        (0x5_FFFF, 0xFFFA_0001),
+        (0x6_0000, 0xFFFA_0000),
+        (4 * MIB, 0xFFC0_0000),
+        (8 * MIB, 0xFF80_0000),
+        (16 * MIB - 1, 0xFF00_0001),
+        (16 * MIB, 0xFF00_0000),
+    ] {
+        let offset = |address| PhysicalAddress(address).flash_offset(length);
+        let last = length as u64 - 1;
+        assert_eq!(offset(first), Ok(FlashOffset(0)));
+        assert_eq!(offset(first + last / 2), Ok(FlashOffset(last / 2)));
+        assert_eq!(offset(0xFFFF_FFFF), Ok(FlashOffset(last)));
+        for outside in [0, last, 0xFEFF_FFFF, first - 1, FOUR_GIB, u64::MAX] {
+            assert_eq!(number(offset(outside)), 7, "{length:#x} {outside:#x}");
+        }
+    }
+}
+
+#[test]
+fn the_fifth_candidate_lies_at_0x20000_in_eight_mebibytes() {
+    let offset = |length| PhysicalAddress(0xFF82_0000).flash_offset(length);
+    assert_eq!(offset(8 * MIB), Ok(FlashOffset(0x2_0000)));
+    assert_eq!(offset(16 * MIB), Ok(FlashOffset(0x82_0000)));
+    assert_eq!(number(offset(4 * MIB)), 7);
 }
 
 // Level, image length, EFS
@@ -124,22 +169,43 @@ fn the_level_comes_before_the_image_length() {
 fn the_image_length_has_both_limits() {
     assert_eq!(number(find_image(&[], 0, 0)), 15);
     assert_eq!(number(find_image(&[0], 0, 0)), 2);
-    let mut image = vec![0; LONGEST_IMAGE + 1];
-    put_efs(&mut image, EFS, 0x100, 0);
-    put_directory(&mut image, 0x100, b"$PSP", &[]);
-    assert_eq!(number(directory(&image, 1)), 15);
-    image.pop();
-    assert_eq!(directory(&image, 1).map(|d| d.place), Ok(0x100));
+    let longest = image_of_length(LONGEST_IMAGE, &[]);
+    assert_eq!(directory(&longest, 1).map(|d| d.place), Ok(ONE as u64));
+    let too_long = image_of_length(LONGEST_IMAGE + 1, &[]);
+    assert_eq!(number(directory(&too_long, 1)), 15);
 }
 
 #[test]
-fn an_efs_needs_all_of_its_bytes() {
-    let mut image = vec![0; EFS + 0x24];
-    put_efs(&mut image, EFS, 0x100, 0);
-    put_directory(&mut image, 0x100, b"$PSP", &[]);
-    assert_eq!(directory(&image, 1).map(|d| d.place), Ok(0x100));
-    image.pop();
-    assert_eq!(number(directory(&image, 1)), 2);
+fn each_candidate_counts_from_the_length_on_that_brings_it_into_the_window() {
+    for candidate in CANDIDATES {
+        let length = (FOUR_GIB - candidate) as usize;
+        let mut image = vec![0; length];
+        put_efs(&mut image, 0, 0x1000, 0);
+        put_directory(&mut image, 0x1000, b"$PSP", &[]);
+        let place = directory(&image, 1).map(|d| d.place);
+        assert_eq!(place, Ok(0x1000), "{candidate:#x}");
+        assert_eq!(efs(&image).map(|efs| efs.place), Ok(0));
+        // a byte less, at either end of the image: the candidate lies below the window and is passed over
+        assert_eq!(number(directory(&image[1..], 1)), 2, "{candidate:#x}");
+        image.pop();
+        assert_eq!(number(directory(&image, 1)), 2, "{candidate:#x}");
+        // a byte more: the candidate lies at 1
+        let longer = [&[0], &image[..], &[0]].concat();
+        if longer.len() <= LONGEST_IMAGE {
+            assert_eq!(efs(&longer).map(|efs| efs.place), Ok(1));
+        }
+    }
+}
+
+#[test]
+fn no_image_below_0x60000_bytes_has_an_efs() {
+    for length in [1, 0x24, 0x2_0000, 0x2_0024, 0x5_FFFF] {
+        // the signature everywhere, so that any place would do
+        let image: Vec<u8> = EFS_SIGNATURE.into_iter().cycle().take(length).collect();
+        assert_eq!(number(efs(&image)), 2, "{length:#x}");
+    }
+    let image: Vec<u8> = EFS_SIGNATURE.into_iter().cycle().take(0x6_0000).collect();
+    assert_eq!(efs(&image).map(|efs| efs.place), Ok(0));
 }
 
 #[test]
@@ -154,34 +220,52 @@ fn an_efs_needs_each_byte_of_its_signature() {
 }
 
 #[test]
-fn the_candidates_are_tried_in_the_order_of_the_paper() {
-    let offsets = [0xFA_0000, 0xF2_0000, 0xE2_0000, 0xC2_0000, 0x82_0000, EFS];
-    let mut image = vec![0; LONGEST_IMAGE];
-    for (k, at) in offsets.into_iter().enumerate() {
-        let o = 0x1000 * (k + 1);
-        put_efs(&mut image, at, o as u32, 0);
-        put_directory(&mut image, o, b"$PSP", &[]);
+fn the_candidates_in_the_window_are_tried_in_the_order_of_the_paper() {
+    for (length, in_window) in [(L, 1), (MIB, 2), (4 * MIB, 4), (8 * MIB, 5), (16 * MIB, 6)] {
+        let at = |k: usize| (CANDIDATES[k] - physical(length)) as usize;
+        let mut image = vec![0; length];
+        for k in 0..in_window {
+            let o = 0x1000 * (k + 1);
+            put_efs(&mut image, at(k), o as u32, 0);
+            put_directory(&mut image, o, b"$PSP", &[]);
+        }
+        for k in 0..in_window {
+            let place = 0x1000 * (k as u64 + 1);
+            assert_eq!(directory(&image, 1).map(|d| d.place), Ok(place));
+            image[at(k)] = 0;
+        }
+        assert_eq!(number(directory(&image, 1)), 2);
     }
-    for (k, at) in offsets.into_iter().enumerate() {
-        let place = 0x1000 * (k as u64 + 1);
-        assert_eq!(directory(&image, 1).map(|d| d.place), Ok(place));
-        image[at] = 0;
+}
+
+#[test]
+fn an_efs_where_16_mebibytes_would_have_it_is_none_in_a_shorter_image() {
+    // in none of these lengths does a candidate lie at such an offset by its own window
+    for length in [0x2_0024, 0x7_0000, 3 * MIB, 11 * MIB] {
+        let mut image = vec![0; length];
+        put_directory(&mut image, 0x1000, b"$PSP", &[]);
+        for candidate in CANDIDATES {
+            let o = (candidate - 0xFF00_0000) as usize;
+            if o + 0x24 <= length {
+                put_efs(&mut image, o, 0x1000, 0);
+            }
+        }
+        assert_eq!(number(directory(&image, 1)), 2, "{length:#x}");
     }
-    assert_eq!(number(directory(&image, 1)), 2);
 }
 
 #[test]
 fn a_bad_first_efs_does_not_lead_to_the_next() {
-    let mut image = vec![0; 0x82_0000 + 0x24];
-    put_efs(&mut image, EFS, ONE as u32, 0);
+    let mut image = vec![0; MIB];
+    let [first, second] = [0xA_0000, EFS];
+    put_efs(&mut image, second, ONE as u32, 0);
     put_directory(&mut image, ONE, b"$PSP", &[]);
     assert!(directory(&image, 1).is_ok());
-    put_efs(&mut image, 0x82_0000, 0, 0);
+    put_efs(&mut image, first, 0, 0);
     assert_eq!(number(directory(&image, 1)), 8);
-    put_efs(&mut image, 0x82_0000, 0x1234_5678, 0);
+    put_efs(&mut image, first, 0x1234_5678, 0);
     assert_eq!(number(directory(&image, 1)), 7);
-    // cut off by the image's end, it is passed over
-    image.pop();
+    image[first + 3] = 0;
     assert!(directory(&image, 1).is_ok());
 }
 
@@ -207,40 +291,69 @@ fn the_later_pointer_wins_and_the_early_one_stands_in_for_it() {
 #[test]
 fn a_wrong_later_pointer_does_not_lead_to_the_early_one() {
     let mut image = image_of(&[]);
-    for wrong in [0x1234_5678, 0x0100_0000, 0xFEFF_FFFF, 0xFFFF_FFFE] {
+    let first = physical(L) as u32;
+    for wrong in [0x1234_5678, L as u32, 0x0100_0000, 0xFF00_0000, first - 1] {
         put_efs(&mut image, EFS, wrong, ONE as u32);
         assert_eq!(number(directory(&image, 1)), 7, "{:#x}", wrong);
+    }
+    // taken, but too near to the image's end
+    put_efs(&mut image, EFS, 0xFFFF_FFFE, ONE as u32);
+    assert_eq!(number(directory(&image, 1)), 1);
+}
+
+#[test]
+fn pointers_are_physical_or_offsets_by_the_length_of_the_image() {
+    for length in [0x6_0000, L, PARTS[0], PARTS[1], PARTS[2]] {
+        let mut image = image_of_length(length, &[]);
+        let last = length - 16;
+        let efs = length - 0x6_0000;
+        // an EFS at 0 leaves no room for a directory there
+        let low = if efs == 0 { 0x100 } else { 0 };
+        put_directory(&mut image, low, b"$PSP", &[]);
+        put_directory(&mut image, last, b"$PSP", &[]);
+        let mut place = |pointer: u64| {
+            put_efs(&mut image, efs, pointer as u32, 0);
+            directory(&image, 1)
+                .map(|d| d.place as usize)
+                .map_err(|refusal| refusal.number)
+        };
+        let (first, length) = (physical(length), length as u64);
+        for (pointer, expected) in [
+            // physical, from the first address of the window on
+            (first + low as u64, Ok(low)),
+            (first + last as u64, Ok(last)),
+            (first + last as u64 + 1, Err(1)),
+            (0xFFFF_FFFE, Err(1)),
+            // a flash offset, to the image's last byte
+            (last as u64, Ok(last)),
+            (last as u64 + 1, Err(1)),
+            (length - 1, Err(1)),
+            // neither
+            (length, Err(7)),
+            (length + 1, Err(7)),
+            (0x7FFF_FFFF, Err(7)),
+            (first - 1, Err(7)),
+        ] {
+            assert_eq!(place(pointer), expected, "{length:#x} {pointer:#x}");
+        }
+        // what a window of 16 MiB would take
+        if length < 16 * MIB as u64 {
+            for pointer in [0xFF00_0000, 0xFF00_0000 + last as u64, 0x00FF_FFFF] {
+                assert_eq!(place(pointer), Err(7), "{length:#x} {pointer:#x}");
+            }
+        }
     }
 }
 
 #[test]
-fn pointers_are_physical_or_offsets_by_their_value() {
-    let mut image = vec![0; LONGEST_IMAGE];
-    put_directory(&mut image, 0, b"$PSP", &[]);
-    put_directory(&mut image, 0xFF_FFF0, b"$PSP", &[]);
-    let mut place = |pointer| {
-        put_efs(&mut image, EFS, pointer, 0);
-        directory(&image, 1).map(|d| d.place)
-    };
-    assert_eq!(place(0xFF00_0000), Ok(0));
-    assert_eq!(place(0xFFFF_FFF0), Ok(0xFF_FFF0));
-    assert_eq!(place(0x00FF_FFF0), Ok(0xFF_FFF0));
-    assert_eq!(number(place(0x00FF_FFF1)), 1);
-    assert_eq!(number(place(0x00FF_FFFF)), 1);
-    assert_eq!(number(place(0xFFFF_FFFE)), 1);
-    // just outside on both sides, in the longest image too
-    assert_eq!(number(place(0x0100_0000)), 7);
-    assert_eq!(number(place(0xFEFF_FFFF)), 7);
-}
-
-#[test]
-fn a_pointer_to_the_image_length_goes_on_and_one_beyond_is_7() {
-    let mut image = image_of(&[]);
-    for base in [0, 0xFF00_0000] {
-        put_efs(&mut image, EFS, base + L as u32, 0);
-        assert_eq!(number(directory(&image, 1)), 1);
-        put_efs(&mut image, EFS, base + L as u32 + 1, 0);
-        assert_eq!(number(directory(&image, 1)), 7);
+fn a_pointer_at_the_first_address_of_the_window_leads_to_offset_0() {
+    for length in PARTS {
+        let mut image = image_of_length(length, &[]);
+        // no directory is there yet
+        put_efs(&mut image, length - 0x6_0000, physical(length) as u32, 0);
+        assert_eq!(number(directory(&image, 1)), 2);
+        put_directory(&mut image, 0, b"$PSP", &different(3));
+        assert_eq!(directory(&image, 1).map(|d| (d.place, d.total)), Ok((0, 3)));
     }
 }
 
@@ -358,7 +471,7 @@ fn the_cookie_is_that_of_the_level_asked_for() {
 
 #[test]
 fn n_is_at_most_512() {
-    let mut image = vec![0; EFS + 0x24];
+    let mut image = vec![0; L];
     put_efs(&mut image, EFS, 0x100, 0);
     put_directory(&mut image, 0x100, b"$PSP", &different(512));
     assert_eq!(directory(&image, 1).map(|d| d.total), Ok(512));
@@ -390,7 +503,9 @@ fn all_entries_are_present_to_the_last_byte() {
     put_efs(&mut image, EFS, o as u32, 0);
     put_directory(&mut image, o, b"$PSP", &different(5));
     assert_eq!(directory(&image, 1).map(|d| d.total), Ok(5));
-    image.pop();
+    // the same bytes one place further on, where the last one has no room
+    image.copy_within(o..L - 1, o + 1);
+    put_efs(&mut image, EFS, o as u32 + 1, 0);
     assert_eq!(number(directory(&image, 1)), 1);
 }
 
@@ -713,33 +828,68 @@ fn level_one_is_checked_whole_before_it_leads() {
 #[test]
 fn a_0x40_leads_by_its_mode_and_its_size_is_not_used() {
     let (one, two) = (ONE as u64, TWO as u64);
-    let physical = 0xFF00_0000;
-    let end = L as u64;
-    for (location, mode, expected) in [
-        (two, 1, Ok(two)),
-        (two + physical, 0, Ok(two)),
-        (two - one, 2, Ok(two)),
-        (two, 3, Err(16)),
-        (end + 1, 3, Err(16)),
-        (two, 0, Err(7)),
-        (two + 0x1_0000_0000, 0, Err(7)),
-        (end, 1, Err(1)),
-        (end + 1, 1, Err(7)),
-        (physical + end, 0, Err(1)),
-        (physical + end + 1, 0, Err(7)),
-        (end - one, 2, Err(1)),
-        (end - one + 1, 2, Err(7)),
-        ((1 << 62) - 1, 0, Err(7)),
-        ((1 << 62) - 1, 1, Err(7)),
-        ((1 << 62) - 1, 2, Err(7)),
-        (one, 1, Err(2)),
+    for length in [L, PARTS[0], PARTS[1], PARTS[2]] {
+        let (first, end) = (physical(length), length as u64);
+        for (location, mode, expected) in [
+            (two, 1, Ok(two)),
+            (first + two, 0, Ok(two)),
+            (two - one, 2, Ok(two)),
+            (two, 3, Err(16)),
+            (end + 1, 3, Err(16)),
+            (end, 1, Err(1)),
+            (end + 1, 1, Err(7)),
+            (end - one, 2, Err(1)),
+            (end - one + 1, 2, Err(7)),
+            ((1 << 62) - 1, 1, Err(7)),
+            ((1 << 62) - 1, 2, Err(7)),
+            (one, 1, Err(2)),
+            // the window's first byte and its last, and what lies outside
+            (first, 0, Err(2)),
+            (first - 1, 0, Err(7)),
+            (FOUR_GIB - 16, 0, Err(2)),
+            (FOUR_GIB - 1, 0, Err(1)),
+            (FOUR_GIB, 0, Err(7)),
+            (FOUR_GIB + 1, 0, Err(7)),
+            (two, 0, Err(7)),
+            (two + FOUR_GIB, 0, Err(7)),
+            ((1 << 62) - 1, 0, Err(7)),
+        ] {
+            let mut image = image_of_length(length, &[raw(0x40, 0, u32::MAX, location, mode)]);
+            put_directory(&mut image, TWO, b"$PL2", &[]);
+            let place = directory(&image, 2).map(|d| d.place);
+            assert_eq!(place.map_err(|r| r.number), expected, "{:#x}", location);
+            let found = find_image(&image, 1, 1).map_err(|r| r.number);
+            assert_eq!(found, Err(expected.err().unwrap_or(8)));
+        }
+    }
+}
+
+#[test]
+fn a_physical_location_goes_by_the_length_of_the_image() {
+    // where level two of 16 MiB begins, and a part of 16 MiB: in 8 MiB neither address has a byte
+    let lead = raw(0x40, 0, 0, 0xFF00_0000 + TWO as u64, 0);
+    let part = raw(1, 0, 4, 0xFF00_0000 + TWO as u64, 0);
+    for (length, expected) in [
+        (16 * MIB, Ok(TWO as u64)),
+        (16 * MIB - 1, Ok(TWO as u64 - 1)),
+        (16 * MIB - TWO, Ok(0)),
+        (16 * MIB - TWO - 1, Err(7)),
+        (8 * MIB, Err(7)),
     ] {
-        let mut image = image_of(&[raw(0x40, 0, u32::MAX, location, mode)]);
-        put_directory(&mut image, TWO, b"$PL2", &[]);
-        let place = directory(&image, 2).map(|d| d.place);
-        assert_eq!(place.map_err(|r| r.number), expected, "{:#x}", location);
-        let found = find_image(&image, 1, 1).map_err(|r| r.number);
-        assert_eq!(found, Err(expected.err().unwrap_or(8)));
+        let mut image = image_of_length(length, &[lead, part]);
+        if let Ok(place) = expected {
+            put_directory(&mut image, place as usize, b"$PL2", &[]);
+        }
+        let two = directory(&image, 2).map(|d| d.place);
+        assert_eq!(two.map_err(|r| r.number), expected, "{length:#x}");
+        let part = bytes(&image, 1, 1).map(|part| part.place);
+        assert_eq!(part.map_err(|r| r.number), expected, "{length:#x}");
+        let place = ONE as u64;
+        let view = View {
+            image: &image,
+            place,
+        };
+        assert_eq!(view.bytes(1), bytes(&image, 1, 1));
     }
 }
 
@@ -797,39 +947,48 @@ fn bytes_are_refused_by_8_then_17_then_16_then_7() {
 
 #[test]
 fn bytes_lie_where_location_and_mode_say() {
-    let (one, end) = (ONE as u64, L as u64);
-    let physical = 0xFF00_0000;
-    for (size, location, mode, expected) in [
-        (0x100, 0x1000, 1, Ok(0x1000)),
-        (0x100, physical + 0x1000, 0, Ok(0x1000)),
-        (0x100, 0x1000, 2, Ok(one + 0x1000)),
-        (L as u32, 0, 1, Ok(0)),
-        (L as u32 + 1, 0, 1, Err(7)),
-        // the image's last byte, and one more
-        (0x100, end - 0x100, 1, Ok(end - 0x100)),
-        (0x101, end - 0x100, 1, Err(7)),
-        (0x100, physical + end - 0x100, 0, Ok(end - 0x100)),
-        (0x101, physical + end - 0x100, 0, Err(7)),
-        (0x100, end - one - 0x100, 2, Ok(end - 0x100)),
-        (0x101, end - one - 0x100, 2, Err(7)),
-        // no bytes at the image's end, and one behind it
-        (0, end, 1, Ok(end)),
-        (0, end + 1, 1, Err(7)),
-        (0, physical + end, 0, Ok(end)),
-        (0, end - one, 2, Ok(end)),
-        (0, end - one + 1, 2, Err(7)),
-        // outside the window
-        (0, 0x1000, 0, Err(7)),
-        (0, physical - 1, 0, Err(7)),
-        (0, physical + 0x100_0000, 0, Err(7)),
-        (u32::MAX, (1 << 62) - 1, 1, Err(7)),
-        (u32::MAX, (1 << 62) - 1, 2, Err(7)),
-    ] {
-        let image = image_of(&[raw(1, 0, size, location, mode)]);
-        let length = u64::from(size);
-        let expected = expected.map(|place| Part { place, length });
-        let part = bytes(&image, 1, 0).map_err(|r| r.number);
-        assert_eq!(part, expected, "{:#x} {:#x} {}", size, location, mode);
+    let one = ONE as u64;
+    for length in [L, PARTS[0], PARTS[1], PARTS[2]] {
+        let (first, end) = (physical(length), length as u64);
+        for (size, location, mode, expected) in [
+            (0x100, 0x1000, 1, Ok(0x1000)),
+            (0x100, first + 0x1000, 0, Ok(0x1000)),
+            (0x100, 0x1000, 2, Ok(one + 0x1000)),
+            (length as u32, 0, 1, Ok(0)),
+            (length as u32 + 1, 0, 1, Err(7)),
+            (length as u32, first, 0, Ok(0)),
+            (length as u32 + 1, first, 0, Err(7)),
+            // the image's last byte, and one more
+            (0x100, end - 0x100, 1, Ok(end - 0x100)),
+            (0x101, end - 0x100, 1, Err(7)),
+            (0x100, FOUR_GIB - 0x100, 0, Ok(end - 0x100)),
+            (0x101, FOUR_GIB - 0x100, 0, Err(7)),
+            (1, FOUR_GIB - 1, 0, Ok(end - 1)),
+            (2, FOUR_GIB - 1, 0, Err(7)),
+            (0x100, end - one - 0x100, 2, Ok(end - 0x100)),
+            (0x101, end - one - 0x100, 2, Err(7)),
+            // no bytes at the image's end, and one behind it; no physical address is there
+            (0, end, 1, Ok(end)),
+            (0, end + 1, 1, Err(7)),
+            (0, end - one, 2, Ok(end)),
+            (0, end - one + 1, 2, Err(7)),
+            (0, FOUR_GIB - 1, 0, Ok(end - 1)),
+            (0, FOUR_GIB, 0, Err(7)),
+            (0, FOUR_GIB + 1, 0, Err(7)),
+            // outside the window
+            (0, 0x1000, 0, Err(7)),
+            (0, first - 1, 0, Err(7)),
+            (0, first, 0, Ok(0)),
+            (u32::MAX, (1 << 62) - 1, 0, Err(7)),
+            (u32::MAX, (1 << 62) - 1, 1, Err(7)),
+            (u32::MAX, (1 << 62) - 1, 2, Err(7)),
+        ] {
+            let image = image_of_length(length, &[raw(1, 0, size, location, mode)]);
+            let length = u64::from(size);
+            let expected = expected.map(|place| Part { place, length });
+            let part = bytes(&image, 1, 0).map_err(|r| r.number);
+            assert_eq!(part, expected, "{:#x} {:#x} {}", size, location, mode);
+        }
     }
 }
 
@@ -973,7 +1132,7 @@ fn the_first_fault_before_a_match_is_the_answer() {
 
 #[test]
 fn the_longest_walk_follows_256_leads_into_512_entries_each() {
-    let mut image = vec![0; 0x4_0000];
+    let mut image = vec![0; L];
     put_efs(&mut image, EFS, 0x3_0000, 0);
     // no more than 256 entries of one type differ in their subprogram
     let leads = (0..=255).map(|subprogram| raw(0x40, subprogram, 0, 0x100, 1));
@@ -1217,13 +1376,20 @@ fn the_pointer_is_told_with_its_field_and_where_it_leads() {
     assert_eq!(pointer(&image), Err(Refusal::of(2)));
     put_efs(&mut image, EFS, 0, 0xFFFF_FFFF);
     assert_eq!(pointer(&image), Err(Refusal::of(8)));
-    put_efs(&mut image, EFS, 0, 0xFF00_0000 + L as u32);
+    put_efs(&mut image, EFS, 0, 0xFFFF_FFFE);
     let early = Pointer {
         field: 0x10,
-        value: 0xFF00_0000 + L as u32,
-        place: L as u64,
+        value: 0xFFFF_FFFE,
+        place: L as u64 - 2,
     };
     assert_eq!(pointer(&image), Ok(early));
-    put_efs(&mut image, EFS, L as u32 + 1, 0);
+    put_efs(&mut image, EFS, L as u32 - 1, 0);
+    let late = Pointer {
+        field: 0x14,
+        value: L as u32 - 1,
+        place: L as u64 - 1,
+    };
+    assert_eq!(pointer(&image), Ok(late));
+    put_efs(&mut image, EFS, L as u32, 0);
     assert_eq!(pointer(&image), Err(Refusal::of(7)));
 }

@@ -3,6 +3,7 @@
 use crate::arguments::command::{Command, Job};
 use crate::arguments::numbers;
 use crate::arguments::words::Words;
+use crate::shown::boards;
 use crate::shown::refusals::{explained, numbered, Explained, REFUSALS};
 use crate::system::folding::folded;
 use crate::system::output::print;
@@ -88,6 +89,16 @@ fn page(known: &Explained, columns: usize) -> String {
             text.push_str(&format!("  {line}\n"));
         }
     }
+    let boards = boards::told(known.number);
+    if !boards.is_empty() {
+        text.push_str("\nBy the size of the flash part, which is that of its window:\n");
+    }
+    for words in boards {
+        for (number, line) in folded(&words, columns.saturating_sub(4)).iter().enumerate() {
+            let indent = if number == 0 { "  " } else { "    " };
+            text.push_str(&format!("{indent}{line}\n"));
+        }
+    }
     text
 }
 
@@ -113,6 +124,9 @@ mod tests {
                 let together = page.split_whitespace().collect::<Vec<_>>().join(" ");
                 for text in [known.title, known.means, known.causes, known.look] {
                     assert!(together.contains(text), "{}: {text}", known.number);
+                }
+                for text in boards::told(known.number) {
+                    assert!(together.contains(&text), "{}: {text}", known.number);
                 }
                 let widest = page.lines().map(|line| line.chars().count()).max();
                 assert!(

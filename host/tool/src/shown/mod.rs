@@ -1,6 +1,7 @@
 //! Answers as people and programs see them.
 
 pub mod answer;
+pub mod boards;
 pub mod csv;
 pub mod digits;
 pub mod entry;

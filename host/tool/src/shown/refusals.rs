@@ -30,14 +30,19 @@ pub static REFUSALS: [Explained; 18] = [
         number: Refusal::SIGNATURE,
         title: "signature not found",
         means: "The bytes do not begin with what they must begin with: no embedded firmware \
-             structure lies at any of its six places, a directory lacks the cookie of its level, \
-             an ASPT lacks its four letters, a GUID table its footer, or firmware the mark of \
-             its header.",
-        causes: "A file of another kind, an image that begins at another address than the flash \
-             does, an encrypted or compressed image, or a pointer that leads to something else.",
-        look: "Bytes aa 55 aa 55 at 0xfa0000, 0xf20000, 0xe20000, 0xc20000, 0x820000 or 0x20000 \
-             of the image; where the pointer leads, and the four letters there: $PSP for level \
-             1, $PL2 for level 2.",
+             structure (EFS) lies at any of its places in the image, a directory lacks the \
+             cookie of its level, an ASPT lacks its four letters, a GUID table its footer, or \
+             firmware the mark of its header.",
+        causes: "A dump that is not as long as the flash part. Its last byte is taken for the \
+             one at 0xffffffff, so bytes that are missing or added at its end move all physical \
+             addresses, and mostly no EFS is left where it is looked for. One of 8 MiB that is \
+             padded to 16 MiB behind its last byte may still have one, at 0x20000, and what a \
+             physical address in it points to is then looked for 0x800000 bytes too far on. \
+             Other causes: a file of another kind, an encrypted or compressed image, or a \
+             pointer that leads to something else.",
+        look: "First the file's length. Where it is not that of the flash part, read the part \
+             again, or take off what was added. Then bytes aa 55 aa 55 at the places below; and \
+             where the pointer leads, the four letters there: $PSP for level 1, $PL2 for level 2.",
     },
     Explained {
         number: Refusal::LIMITS,
@@ -85,13 +90,19 @@ pub static REFUSALS: [Explained; 18] = [
     Explained {
         number: Refusal::OUTSIDE,
         title: "address outside the image",
-        means: "An address or a range does not lie in the image: a physical address outside \
-             0xff000000 to 0xffffffff, a pointer that is neither physical nor a flash offset, a \
-             place or an end beyond the image's last byte, or a register outside its space.",
-        causes: "An image that is only a part of the flash, an entry whose bytes lie in another \
-             file, or an address mode that does not fit the location.",
-        look: "The file's length beside location and size of the entry; its address mode; the \
-             pointers at 0x10 and 0x14 of the embedded firmware structure.",
+        means: "An address or a range does not lie in the image: a physical address outside the \
+             image's window, which is as long as the image and ends at 4 GiB; a pointer of the \
+             embedded firmware structure (EFS) that is neither in the window nor below the \
+             image's length; a place or an end beyond the image's last byte; or a register \
+             outside its space.",
+        causes: "A dump that is not as long as the flash part. One that is cut off has a window \
+             that begins too high: what lies below it is refused, and so is a flash offset that \
+             the dump does not reach. Other causes: addresses made for a larger flash part, as \
+             0xff020000 on a board of 8 MiB; an entry whose bytes lie in another file; or an \
+             address mode that does not fit the location.",
+        look: "First the file's length. Where it is not that of the flash part, read the part \
+             again, or take off what was added. Then the pointers at 0x10 and 0x14 of the EFS, \
+             and location, size and address mode of the entry, beside what is taken, below.",
     },
     Explained {
         number: Refusal::ABSENT,
@@ -155,8 +166,8 @@ pub static REFUSALS: [Explained; 18] = [
     Explained {
         number: Refusal::IMAGE,
         title: "image empty or too long",
-        means: "A flash image has at least one byte and at most 16777216, the size of the \
-             window below 4 GiB.",
+        means: "A flash image has at least one byte and at most 16777216, as many as the \
+             longest window below 4 GiB.",
         causes: "An empty file, or the image of a flash of 32 MiB or more.",
         look: "The file's length. Of a larger flash, give the part of 16 MiB that holds the \
              firmware.",

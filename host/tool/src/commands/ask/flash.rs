@@ -114,12 +114,12 @@ mod tests {
     /// An EFS whose pointer leads to 0x100. There is a level one of three entries: one of type 1 with 256 bytes at 0x1000,
     /// one that leads by a physical address to 0x200, and one that holds a value. At 0x200 is an empty level two.
     const IMAGE: &str = "\
-buffer a 0x20024
+buffer a 0x80000
 patch a 0x20000 aa55aa55
 patch a 0x20014 00010000
-patch a 0x100 245053509854ddcd0300000000000000
+patch a 0x100 24505350905585d80300000000000000
 patch a 0x110 01020000000100000010000000000040
-patch a 0x120 4000000000000000000200ff00000000
+patch a 0x120 40000000000000000002f8ff00000000
 patch a 0x130 0b0000000000000078563412efcdabc9
 patch a 0x200 24504c32ffffffff0000000000000000
 ";

@@ -64,9 +64,9 @@ mod tests {
 
     /// An EFS whose pointer leads to an empty level one at 0x100; at 0x200 a level two of one entry, to which nothing leads.
     const IMAGE: &str = "\
-buffer a 0x20024
+buffer a 0x80000
 patch a 0x20000 aa55aa55
-patch a 0x20010 000100ff
+patch a 0x20010 0001f8ff
 patch a 0x100 24505350ffffffff0000000000000000
 patch a 0x200 24504c32048024800100000000000000
 patch a 0x210 03000000000000000000000000000080
@@ -86,7 +86,7 @@ patch a 0x210 03000000000000000000000000000080
     #[test]
     fn what_is_refused_is_told() {
         let calls = "view a 0\nview a 2\nview-entry a 0x100 0\nview-entry a 0 0\n\
-                     view-bytes a 0x20024 0\nview-bytes a 0xffffffffffffffff 0\n";
+                     view-bytes a 0x80000 0\nview-bytes a 0xffffffffffffffff 0\n";
         let expected = [
             "refused 9",
             "refused 8",

@@ -61,7 +61,22 @@ pub fn image(page: &mut Page, source: &Source, outcome: &Outcome) {
         (None, Source::File(_)) => return,
     };
     page.gap();
+    if let Some(first) = refusal.and_then(|(refusal, _)| first_to_check(refusal)) {
+        page.add(Look::Plain, 2, 2, first);
+    }
     page.add(Look::Plain, 2, 2, &hint);
+}
+
+/// What to check before all else. A dump that is longer or shorter than its flash part is the usual cause of a signature or a
+/// place that is not there, and nothing else of the register tells it.
+fn first_to_check(refusal: Refusal) -> Option<&'static str> {
+    match refusal.number {
+        Refusal::SIGNATURE | Refusal::OUTSIDE => Some(
+            "Is the file as long as the flash part? Its last byte is taken for the one at \
+             0xffffffff, and all physical addresses go by that.",
+        ),
+        _ => None,
+    }
 }
 
 fn met_words(met: Met) -> String {

@@ -4,14 +4,15 @@
 
 use bindings::{extend, start, Answer, NewEntry};
 
-/// The image's length, and the places of what lies in it. The EFS is at the lowest of its six places.
-const LENGTH: usize = 0x3_0000;
+/// The image's length, and the places of what lies in it. The EFS is at 0xfffa0000, the first of its places, which is the only
+/// one that a flash of 512 KiB has.
+const LENGTH: usize = 0x8_0000;
 const EFS: usize = 0x2_0000;
 const LEVEL_ONE: usize = 0x2_1000;
 const LEVEL_TWO: usize = 0x2_8000;
 
-/// Where physical addresses of the flash begin.
-const WINDOW: u64 = 0xFF00_0000;
+/// Where physical addresses of the sample's flash begin: it ends at 4 GiB.
+const WINDOW: u64 = 0x1_0000_0000 - LENGTH as u64;
 
 /// The address modes.
 const PHYSICAL: u32 = 0;
@@ -43,7 +44,7 @@ pub fn board() -> Answer<Vec<u8>> {
             entry(0x08, 0, 0x1000, 0x2_C000, FROM_IMAGE),
             entry(0x08, 1, 0x1000, 0x2_D000, FROM_IMAGE),
             entry(0x21, 0, 0x10, 0x2_E000, FROM_IMAGE),
-            entry(0x5A, 0, 0x200, 0x2_FF00, FROM_IMAGE),
+            entry(0x5A, 0, 0x200, LENGTH as u64 - 0x100, FROM_IMAGE),
         ],
     )?;
     for (place, version) in [
