@@ -1,10 +1,12 @@
 -- An entry's fields, as the code reads them. Assumes nothing.
-use mathlib.Core.Path.{_≡_, sym, ap, _∙_}
+use mathlib.Core.Path.{_≡_, refl, sym, ap, _∙_}
 use mathlib.Core.List.{List}
-use Prim.Native.Nat.{ℕ, _+_, _/_, _%_, _<_, _≤_}
+use Prim.Native.Nat.{ℕ, _+_, _-_, _/_, _%_, _<_, _≤_}
 use native.Mathlib.Omega.{arith}
 use borrow.Author.Tests.{lt-ltb, le-ltb}
+use lib.ListN.{take, drop}
 use Rattle.le.specs.Le.{leAt}
+use Rattle.le.proofs.Part.{le-part}
 use Rattle.reply.specs.Reply.{given, refused, alone}
 use Rattle.reply.proofs.ReplyLaws.{passed, failed}
 use Rattle.window.specs.declared.Offset.{Offset}
@@ -19,6 +21,12 @@ pub fields-read : (s : List ℕ) (p e class subprogram size word : ℕ) → e �
     _≡_ {A = Entry} (record { class = class; subprogram = subprogram; size = size; location = word % 0x4000_0000_0000_0000; mode = word / 0x4000_0000_0000_0000 % 4 }) (fieldsAt s p)
 fields-read s p e class subprogram size word at w a b z =
     (λ i. record { class = a i; subprogram = b i; size = z i; location = w i % 0x4000_0000_0000_0000; mode = w i / 0x4000_0000_0000_0000 % 4 }) ∙ ap (fieldsAt s) at
+
+-- an entry's fields, read in its own sixteen bytes, as `&s[o..e]` has them
+pub fields-part : (s : List ℕ) (o e : ℕ) → e ≡ o + 16 → fieldsAt (take (e - o) (drop o s)) 0 ≡ fieldsAt s o
+fields-part s o e h =
+    let at : (n p : ℕ) → p + n ≤ 16 → leAt n (take (e - o) (drop o s)) p ≡ leAt n s (o + p) = λ n p l. le-part n (e - o) s o p (omega arith) in
+    fields-read s o o _ _ _ _ refl (at 8 8 (omega arith)) (at 1 0 (omega arith)) (at 1 1 (omega arith)) (at 4 4 (omega arith))
 
 -- a directory by the place and the total that it told; its level has no part in what is read of its entries
 abbrev pub told : Offset → (n : ℕ) → Directory

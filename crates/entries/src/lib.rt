@@ -44,6 +44,21 @@ fn fields_at(image: &[u8], kind: Kind, at: Offset, i: u32) -> Entry
     }
 }
 
+// The fields of the entry that begins where these bytes do. A caller that knows where an entry lies hands over its sixteen bytes, and no read of them is tested.
+// `fields_at` says the same once more: one function for both would not be inlined, and its reads would be tested.
+pub fn fields_of(bytes: &[u8]) -> Entry
+    ensures { λ r. ⌜ r ≡ fieldsAt (now (bytes .entry)) 0 ⌝ }
+{
+    let word = le::u64_at(bytes, Kind::LOCATION);
+    Entry {
+        class: le::u8_at(bytes, Kind::CLASS),
+        subprogram: le::u8_at(bytes, Kind::SUBPROGRAM),
+        size: le::u32_at(bytes, Kind::SIZE),
+        location: word % 0x4000_0000_0000_0000,
+        mode: (word / 0x4000_0000_0000_0000 % 4) as u8,
+    }
+}
+
 // Entry i of a directory.
 pub fn entry_in(image: &[u8], kind: Kind, d: Directory, i: usize) -> EntryAnswer
     ensures { λ r. ⌜ toldEntry r ≡ entryIn kind (now (image .entry)) d i ⌝ }
@@ -228,6 +243,17 @@ fn part_of(image: &[u8], kind: Kind, window: usize, at: Offset, e: Entry) -> Par
     match place_of(image, window, at, e) {
         OffsetAnswer::Given(place) => part_within(image, place, e.size),
         OffsetAnswer::Refused(why) => PartAnswer::Refused(why),
+    }
+}
+
+// Where the bytes of an entry lie, in a directory at an offset, through a window of so many bytes, or why there are none.
+pub fn entry_part(image: &[u8], kind: Kind, window: usize, at: Offset, e: Entry) -> PartAnswer
+    ensures { λ r. ⌜ toldPart r ≡ sized (now (image .entry)) (partOf kind window (now (image .entry)) (at .0) e) ⌝ }
+{
+    if window::length_allowed(image) {
+        part_of(image, kind, window, at, e)
+    } else {
+        PartAnswer::Refused(Refusal::IMAGE)
     }
 }
 

@@ -4,11 +4,9 @@ use mathlib.Core.List.{List, [], _∷_}
 use Rattle.directory.specs.declared.Directory.{Directory}
 use Rattle.directory.specs.declared.Repeat.{Repeat}
 use Rattle.entries.specs.declared.Entry.{Entry}
-use Rattle.entries.specs.declared.Match.{Match}
 use Rattle.entries.specs.declared.Part.{Part}
 use Rattle.efs.specs.declared.Efs.{Efs}
 use Rattle.efs.specs.declared.Pointer.{Pointer}
-use Rattle.walk.specs.declared.ImageMatch.{ImageMatch}
 
 -- an EFS: its place, its early pointer and its late pointer
 abbrev pub layEfs : Efs → List ℕ
@@ -33,14 +31,6 @@ layEntry e = e .class ∷ e .subprogram ∷ e .size ∷ e .location ∷ e .mode 
 -- a part: where it begins, and its length
 abbrev pub layPart : Part → List ℕ
 layPart p = p .place .0 ∷ p .length ∷ []
-
--- a match in a directory: its index, and how many entries were tested
-abbrev pub layMatch : Match → List ℕ
-layMatch m = m .index ∷ m .tested ∷ []
-
--- a match in the whole image: its directory's place and level, its index, and how many entries were tested
-abbrev pub layImageMatch : ImageMatch → List ℕ
-layImageMatch f = f .place .0 ∷ f .level ∷ f .index ∷ f .tested ∷ []
 
 -- a view of a directory: the place where the directory begins
 abbrev pub layPlace : Directory → List ℕ

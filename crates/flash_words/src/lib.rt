@@ -1,25 +1,18 @@
-// What the calls on a flash image give, in lent words: the EFS, the directory pointer, the directory of a level, its entries, where their
-// bytes lie, and the lookups; the version in a firmware binary's header and the checksum of lent bytes too.
+// What the calls on a flash image give, in lent words: the EFS, the directory pointer, the directory of a level, which entries of it repeat, its entries,
+// and where their bytes lie. The lookups stand in `lookup_words`.
 ghost use mathlib.Core.Path.{_≡_};
-ghost use Rattle.reply.specs.Reply.{given};
-ghost use Rattle.fletcher.specs.Fletcher.{fletcherOf};
-ghost use Rattle.lent.specs.Lent.{numberLeft, wordsLeft, layNumber};
+ghost use Rattle.lent.specs.Lent.{numberLeft, wordsLeft};
 ghost use Rattle.efs.specs.Rules.{rulesOf};
 ghost use Rattle.efs.specs.Efs.{flashEfs, flashPointer};
-ghost use Rattle.flash.specs.Flash.{flashDirectory, flashEntry, flashPart, flashFind};
-ghost use Rattle.walk.specs.Walk.{findImage};
+ghost use Rattle.flash.specs.Flash.{flashDirectory, flashEntry, flashPart};
 ghost use Rattle.repeats.specs.Repeats.{flashRepeats};
-ghost use Rattle.version.specs.Version.{versionOf};
-ghost use Rattle.flash_words.specs.Images.{layEfs, layPointer, layDirectory, layRepeat, layEntry, layPart, layMatch, layImageMatch};
+ghost use Rattle.flash_words.specs.Images.{layEfs, layPointer, layDirectory, layRepeat, layEntry, layPart};
 use directory::DirectoryAnswer;
 use directory::RepeatAnswer;
 use efs::EfsAnswer;
 use efs::PointerAnswer;
 use entries::EntryAnswer;
-use entries::MatchAnswer;
 use entries::PartAnswer;
-use version::VersionAnswer;
-use walk::ImageMatchAnswer;
 
 // Three words: the EFS's place, and its pointers at 0x10 and at 0x14 as they stand.
 pub fn efs(image: &[u8], words: &mut [u64]) -> u64
@@ -121,70 +114,4 @@ pub fn part(image: &[u8], level: u32, index: u64, words: &mut [u64]) -> u64
         }
         PartAnswer::Refused(why) => why.number as u64,
     }
-}
-
-// Two words: the match's index, and how many entries were tested; with an 8 one word, how many were tested.
-pub fn find(image: &[u8], level: u32, class: u8, sub: u8, words: &mut [u64]) -> u64
-    ensures { λ r. ⌜ r ≡ numberLeft layMatch (flashFind (rulesOf (now (image .entry))) level (now (image .entry)) class sub) (now (words .entry)) ⌝ }
-    ensures { λ _. ⌜ now (words .exit) ≡ wordsLeft layMatch (flashFind (rulesOf (now (image .entry))) level (now (image .entry)) class sub) (now (words .entry)) ⌝ }
-{
-    match flash::find(image, level, class, sub) {
-        MatchAnswer::Given(m) => {
-            let values = [m.index as u64, m.tested as u64];
-            lent::put(words, 0, &values)
-        }
-        MatchAnswer::Absent(n) => {
-            let values = [n as u64];
-            lent::put(words, 8, &values)
-        }
-        MatchAnswer::Refused(why) => why.number as u64,
-    }
-}
-
-// Four words: the place and level of the match's directory, its index, and how many entries were tested; with an 8 one word, how many were tested.
-pub fn find_image(image: &[u8], class: u8, sub: u8, words: &mut [u64]) -> u64
-    ensures { λ r. ⌜ r ≡ numberLeft layImageMatch (findImage (rulesOf (now (image .entry))) (now (image .entry)) class sub) (now (words .entry)) ⌝ }
-    ensures { λ _. ⌜ now (words .exit) ≡ wordsLeft layImageMatch (findImage (rulesOf (now (image .entry))) (now (image .entry)) class sub) (now (words .entry)) ⌝ }
-{
-    match walk::find_image(image, class, sub) {
-        ImageMatchAnswer::Given(f) => {
-            let place = f.place;
-            let values = [
-                place.0 as u64,
-                f.level as u64,
-                f.index as u64,
-                f.tested as u64,
-            ];
-            lent::put(words, 0, &values)
-        }
-        ImageMatchAnswer::Absent(n) => {
-            let values = [n as u64];
-            lent::put(words, 8, &values)
-        }
-        ImageMatchAnswer::Refused(why) => why.number as u64,
-    }
-}
-
-// One word: the version.
-pub fn version(bytes: &[u8], words: &mut [u64]) -> u64
-    ensures { λ r. ⌜ r ≡ numberLeft layNumber (versionOf (now (bytes .entry))) (now (words .entry)) ⌝ }
-    ensures { λ _. ⌜ now (words .exit) ≡ wordsLeft layNumber (versionOf (now (bytes .entry))) (now (words .entry)) ⌝ }
-{
-    match version::version(bytes) {
-        VersionAnswer::Given(version) => {
-            let version_word = [version as u64];
-            lent::put(words, 0, &version_word)
-        }
-        VersionAnswer::Refused(why) => why.number as u64,
-    }
-}
-
-// One word: the checksum of the bytes.
-pub fn checksum(bytes: &[u8], words: &mut [u64]) -> u64
-    ensures { λ r. ⌜ r ≡ numberLeft layNumber (given (fletcherOf (now (bytes .entry)))) (now (words .entry)) ⌝ }
-    ensures { λ _. ⌜ now (words .exit) ≡ wordsLeft layNumber (given (fletcherOf (now (bytes .entry)))) (now (words .entry)) ⌝ }
-{
-    let sum = fletcher::fletcher(bytes);
-    let sum_word = [sum as u64];
-    lent::put(words, 0, &sum_word)
 }

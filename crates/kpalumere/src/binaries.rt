@@ -12,7 +12,7 @@ pub extern "C" fn kpalumere_version(bytes: &[u8], words: &mut [u64]) -> u64
     ensures { λ r. ⌜ r ≡ numberLeft layNumber (versionOf (now (bytes .entry))) (now (words .entry)) ⌝ }
     ensures { λ _. ⌜ now (words .exit) ≡ wordsLeft layNumber (versionOf (now (bytes .entry))) (now (words .entry)) ⌝ }
 {
-    flash_words::version(bytes, words)
+    binary_words::version(bytes, words)
 }
 
 // One word: the version of the firmware binary that the bytes of an entry of the directory of a level are.

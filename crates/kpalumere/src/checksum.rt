@@ -10,5 +10,5 @@ pub extern "C" fn kpalumere_checksum(bytes: &[u8], words: &mut [u64]) -> u64
     ensures { λ r. ⌜ r ≡ numberLeft layNumber (given (fletcherOf (now (bytes .entry)))) (now (words .entry)) ⌝ }
     ensures { λ _. ⌜ now (words .exit) ≡ wordsLeft layNumber (given (fletcherOf (now (bytes .entry)))) (now (words .entry)) ⌝ }
 {
-    flash_words::checksum(bytes, words)
+    binary_words::checksum(bytes, words)
 }

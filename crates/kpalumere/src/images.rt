@@ -6,7 +6,9 @@ ghost use Rattle.efs.specs.Efs.{flashEfs, flashPointer};
 ghost use Rattle.flash.specs.Flash.{flashDirectory, flashEntry, flashPart, flashFind};
 ghost use Rattle.repeats.specs.Repeats.{flashRepeats};
 ghost use Rattle.walk.specs.Walk.{findImage};
-ghost use Rattle.flash_words.specs.Images.{layEfs, layPointer, layDirectory, layRepeat, layEntry, layPart, layMatch, layImageMatch};
+ghost use Rattle.all_directories.specs.AllDirectories.{flashDirectories, layDirectories};
+ghost use Rattle.lookup_words.specs.Lookups.{layMatch, layImageMatch};
+ghost use Rattle.flash_words.specs.Images.{layEfs, layPointer, layDirectory, layRepeat, layEntry, layPart};
 
 // Three words: the EFS's place, and its pointers at 0x10 and at 0x14 as they stand.
 #[no_mangle]
@@ -33,6 +35,15 @@ pub extern "C" fn kpalumere_directory(image: &[u8], level: u32, words: &mut [u64
     ensures { λ _. ⌜ now (words .exit) ≡ wordsLeft layDirectory (flashDirectory (rulesOf (now (image .entry))) level (now (image .entry))) (now (words .entry)) ⌝ }
 {
     flash_words::directory(image, level, words)
+}
+
+// How many directories the image has, then four words for each: its place, level and total, and the index of the entry of level one that led there.
+#[no_mangle]
+pub extern "C" fn kpalumere_directories(image: &[u8], words: &mut [u64]) -> u64
+    ensures { λ r. ⌜ r ≡ numberLeft layDirectories (flashDirectories (rulesOf (now (image .entry))) (now (image .entry))) (now (words .entry)) ⌝ }
+    ensures { λ _. ⌜ now (words .exit) ≡ wordsLeft layDirectories (flashDirectories (rulesOf (now (image .entry))) (now (image .entry))) (now (words .entry)) ⌝ }
+{
+    all_directories::directories(image, words)
 }
 
 // Four words: of a directory that is refused since an entry repeats, that entry, the earlier one, and the type and subprogram of both.
@@ -74,7 +85,7 @@ pub extern "C" fn kpalumere_find(
     ensures { λ r. ⌜ r ≡ numberLeft layMatch (flashFind (rulesOf (now (image .entry))) level (now (image .entry)) class sub) (now (words .entry)) ⌝ }
     ensures { λ _. ⌜ now (words .exit) ≡ wordsLeft layMatch (flashFind (rulesOf (now (image .entry))) level (now (image .entry)) class sub) (now (words .entry)) ⌝ }
 {
-    flash_words::find(image, level, class, sub, words)
+    lookup_words::find(image, level, class, sub, words)
 }
 
 // Four words: the place and level of the match's directory, its index, and how many entries were tested; with an 8 one word, how many were tested.
@@ -83,5 +94,5 @@ pub extern "C" fn kpalumere_find_image(image: &[u8], class: u8, sub: u8, words: 
     ensures { λ r. ⌜ r ≡ numberLeft layImageMatch (findImage (rulesOf (now (image .entry))) (now (image .entry)) class sub) (now (words .entry)) ⌝ }
     ensures { λ _. ⌜ now (words .exit) ≡ wordsLeft layImageMatch (findImage (rulesOf (now (image .entry))) (now (image .entry)) class sub) (now (words .entry)) ⌝ }
 {
-    flash_words::find_image(image, class, sub, words)
+    lookup_words::find_image(image, class, sub, words)
 }

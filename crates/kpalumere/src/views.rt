@@ -3,9 +3,10 @@ ghost use mathlib.Core.Path.{_≡_};
 ghost use Rattle.lent.specs.Lent.{numberLeft, wordsLeft, layNumber};
 ghost use Rattle.efs.specs.Rules.{rulesOf};
 ghost use Rattle.flash.specs.Flash.{flashDirectory};
-ghost use Rattle.place.specs.Place.{entryAt, partAt};
+ghost use Rattle.place.specs.Place.{checkAt, entryAt, partAt};
 ghost use Rattle.flash_words.specs.Images.{layEntry, layPart, layPlace};
 ghost use Rattle.version_words.specs.Versions.{versionIn};
+ghost use Rattle.all_entries.specs.AllEntries.{layEntries};
 
 // One word: the place that a view of the directory of a level keeps.
 #[no_mangle]
@@ -56,4 +57,14 @@ pub extern "C" fn kpalumere_view_version(
     ensures { λ _. ⌜ now (words .exit) ≡ wordsLeft layNumber (versionIn (now (image .entry)) (partAt (rulesOf (now (image .entry))) (now (image .entry)) place i)) (now (words .entry)) ⌝ }
 {
     version_words::view(image, place, i, words)
+}
+
+// Three words of the directory that a view holds, which is checked once: place, level and total; then eight of each entry: type, subprogram, size, location and
+// mode, the number that refuses its part, or 0, and where its bytes begin and how many they are, or 0 and 0.
+#[no_mangle]
+pub extern "C" fn kpalumere_view_entries(image: &[u8], place: usize, words: &mut [u64]) -> u64
+    ensures { λ r. ⌜ r ≡ numberLeft (layEntries (rulesOf (now (image .entry))) (now (image .entry))) (checkAt (rulesOf (now (image .entry))) (now (image .entry)) place) (now (words .entry)) ⌝ }
+    ensures { λ _. ⌜ now (words .exit) ≡ wordsLeft (layEntries (rulesOf (now (image .entry))) (now (image .entry))) (checkAt (rulesOf (now (image .entry))) (now (image .entry)) place) (now (words .entry)) ⌝ }
+{
+    all_entries::view_entries(image, place, words)
 }

@@ -68,7 +68,14 @@ pub fn place_through(image: &[u8], level: u32) -> Offset
     view_of(image, level).place
 }
 
-// Entry i from the view that holds the image and keeps the place.
+// The directory from the view that holds the image and keeps the place.
+pub fn check_from(image: &[u8], place: Offset) -> DirectoryAnswer
+    ensures { λ r. ⌜ toldDirectory r ≡ viewCheck (now (image .entry)) place ⌝ }
+{
+    view_check(view_at(image, place))
+}
+
+// Entry i, from that view.
 pub fn entry_from(image: &[u8], place: Offset, i: usize) -> EntryAnswer
     ensures { λ r. ⌜ toldEntry r ≡ viewEntry (now (image .entry)) place i ⌝ }
 {

@@ -6,7 +6,7 @@ use contract.Running.{givenOf, tables, tablesOf}
 use Rattle.view.proofs.Answers.{entry}
 use Rattle.view.proofs.Made.{at-place}
 use Rattle.view.proofs.Shared.{Says, meets}
-use Rattle.view.proofs.Through.{promise, walk}
+use Rattle.view.proofs.Through.{promise, walk-indexed}
 use Rattle.view.proofs.view_at as new
 use Rattle.view.proofs.view_at.Symbol as new-def
 use Rattle.view.proofs.view_at.Met as new-thm
@@ -28,6 +28,6 @@ entry-from-spec 𝓤 H 𝓜 𝓖 𝓡 =
     let W = givenOf 𝓤 H 𝓜 𝓖 in
     let run = tables 𝓤 H 𝓜 𝓡 code.env in
     entered 𝓤 H (tripleOf 𝓤 H A entry-from.signature (entry-from.spec 𝓤 H A (𝓜 .mem) (𝓡 .run))) (run .C) (run .Λ) name code.function (code.unfolded 𝓤 H 𝓜 𝓡)
-    (meets (promise at-place entry) 𝓤 H A (tablesOf 𝓤 H 𝓜 run) code.function W (walk at-place entry 𝓤 H A W new-def.name next-def.name (tablesOf 𝓤 H 𝓜 run)
-    (cited 𝓤 H (tripleOf 𝓤 H A new.signature (new.spec 𝓤 H A (𝓜 .mem) (𝓡 .run))) 𝓜 𝓡 code.env new-def.name new-def.routine code.calls-view·view-at (new-thm.met 𝓤 H 𝓜 𝓖 𝓡))
+    (meets (promise at-place entry) 𝓤 H A (tablesOf 𝓤 H 𝓜 run) code.function W (walk-indexed at-place 𝓤 H A W new-def.name next-def.name (tablesOf 𝓤 H 𝓜 run)
+    (cited 𝓤 H (tripleOf 𝓤 H A new.signature (new.spec 𝓤 H A (𝓜 .mem) (𝓡 .run))) 𝓜 𝓡 code.env new-def.name new-def.routine code.calls-view·view-at (new-thm.met 𝓤 H 𝓜 𝓖 𝓡)) entry
     (cited 𝓤 H (tripleOf 𝓤 H A next.signature (next.spec 𝓤 H A (𝓜 .mem) (𝓡 .run))) 𝓜 𝓡 code.env next-def.name next-def.routine code.calls-view·view-entry (next-thm.met 𝓤 H 𝓜 𝓖 𝓡))))

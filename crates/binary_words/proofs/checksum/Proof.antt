@@ -3,8 +3,8 @@ use mathlib.Core.Path.{sym, ap}
 use Rattle.reply.specs.Reply.{given}
 use Rattle.lent.proofs.Laws.{given-number, given-words}
 use Rattle.lent.specs.Lent.{layNumber}
-use Rattle.flash_words.proofs.checksum.Statement.{statement}
-use Rattle.flash_words.proofs.checksum.Tie as tie
+use Rattle.binary_words.proofs.checksum.Statement.{statement}
+use Rattle.binary_words.proofs.checksum.Tie as tie
 
 fletcher-requires : tie.Need-fletcher-requires
 fletcher-requires c κs = search needs

@@ -1,10 +1,10 @@
 use mathlib.Core.Path.{sym, ap, _∙_}
 use Rattle.lent.proofs.Laws.{given-number, given-words, tested-number, tested-words, alone-number, alone-words}
 use Rattle.entries.specs.Entry.{toldMatch}
-use Rattle.flash_words.specs.Images.{layMatch}
+use Rattle.lookup_words.specs.Lookups.{layMatch}
 use borrow.Author.Needs.{needs}
-use Rattle.flash_words.proofs.find.Statement.{statement}
-use Rattle.flash_words.proofs.find.Tie as tie
+use Rattle.lookup_words.proofs.find.Statement.{statement}
+use Rattle.lookup_words.proofs.find.Tie as tie
 
 find-requires : tie.Need-find-requires
 find-requires c κs = search needs

@@ -1,10 +1,10 @@
 use mathlib.Core.Path.{sym, ap, _∙_}
 use Rattle.lent.proofs.Laws.{given-number, given-words, tested-number, tested-words, alone-number, alone-words}
 use Rattle.walk.specs.Walk.{toldImageMatch}
-use Rattle.flash_words.specs.Images.{layImageMatch}
+use Rattle.lookup_words.specs.Lookups.{layImageMatch}
 use borrow.Author.Needs.{needs}
-use Rattle.flash_words.proofs.find_image.Statement.{statement}
-use Rattle.flash_words.proofs.find_image.Tie as tie
+use Rattle.lookup_words.proofs.find_image.Statement.{statement}
+use Rattle.lookup_words.proofs.find_image.Tie as tie
 
 find-image-requires : tie.Need-find-image-requires
 find-image-requires c κs = search needs

@@ -3,8 +3,8 @@ use Rattle.lent.proofs.Laws.{given-number, given-words, alone-number, alone-wor
 use Rattle.version.specs.Version.{toldVersion}
 use Rattle.lent.specs.Lent.{layNumber}
 use borrow.Author.Needs.{needs}
-use Rattle.flash_words.proofs.version.Statement.{statement}
-use Rattle.flash_words.proofs.version.Tie as tie
+use Rattle.binary_words.proofs.version.Statement.{statement}
+use Rattle.binary_words.proofs.version.Tie as tie
 
 version-requires : tie.Need-version-requires
 version-requires c κs = search needs

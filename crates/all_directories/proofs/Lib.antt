@@ -1,0 +1,4 @@
+pub mod Entry
+pub mod Rows
+pub mod Added
+pub mod Reached

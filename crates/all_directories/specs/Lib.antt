@@ -1,0 +1,2 @@
+pub mod AllDirectories
+pub mod Gathered

@@ -1,0 +1,2 @@
+pub mod AllEntries
+pub mod RowByRow
