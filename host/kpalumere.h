@@ -27,6 +27,90 @@
 extern "C" {
 #endif
 
+/* ---- The version ----
+ *
+ * That of the project, which `kpalumere --version` prints too. What is compiled with this header is to be linked with the
+ * archive of the same version.
+ */
+
+#define KPALUMERE_VERSION_MAJOR 0
+#define KPALUMERE_VERSION_MINOR 1
+#define KPALUMERE_VERSION_PATCH 0
+#define KPALUMERE_VERSION "0.1.0"
+
+/* ---- What a call answers, by name ----
+ *
+ * A name says what a number is about; what it means for a call stands with the call.
+ */
+
+enum {
+    KPALUMERE_ACCEPTED = 0,
+    KPALUMERE_SHORT = 1,        /* lent bytes too short */
+    KPALUMERE_SIGNATURE = 2,    /* wrong signature, cookie or footer GUID, or no EFS */
+    KPALUMERE_LIMITS = 3,       /* a length, total or count outside its limits */
+    KPALUMERE_CHECKSUM = 4,     /* the checksum */
+    KPALUMERE_FIELD = 5,        /* reserved bits set, or a field's value not allowed */
+    KPALUMERE_STRUCTURE = 6,    /* a structure or GUID entry of wrong type or length */
+    KPALUMERE_OUTSIDE = 7,      /* an address or register outside the image or space */
+    KPALUMERE_ABSENT = 8,       /* no such entry, pointer or outstanding post */
+    KPALUMERE_RANGE = 9,        /* a caller, command or level number out of range */
+    KPALUMERE_OUTSTANDING = 10, /* the caller already has a post outstanding */
+    KPALUMERE_EARLY = 11,       /* the answer is not there yet */
+    KPALUMERE_ROOM = 12,        /* the lent buffer, or the lent words, have no room */
+    KPALUMERE_WRITTEN = 13,     /* bytes to be written over are not zero */
+    KPALUMERE_MISPLACED = 14,   /* type 0x40 in level two */
+    KPALUMERE_IMAGE = 15,       /* the flash image is empty, or has more than 16,777,216 bytes */
+    KPALUMERE_MODE = 16,        /* address mode 3 */
+    KPALUMERE_VALUE = 17,       /* the entry holds a value */
+    KPALUMERE_REPEATED = 18     /* an entry repeats an earlier type and subprogram */
+};
+
+/* ---- How many words a call is lent, by name ----
+ *
+ * With so many words lent no call is refused for want of words: KPALUMERE_EFS_WORDS for kpalumere_efs, and so on. A call that
+ * is lent no words has no such name.
+ */
+
+enum {
+    KPALUMERE_CHECKSUM_WORDS = 1,
+    KPALUMERE_EFS_WORDS = 3,
+    KPALUMERE_POINTER_WORDS = 3,
+    KPALUMERE_DIRECTORY_WORDS = 3,
+    KPALUMERE_REPEATED_WORDS = 4,
+    KPALUMERE_ENTRY_WORDS = 5,
+    KPALUMERE_PART_WORDS = 2,
+    KPALUMERE_FIND_WORDS = 2,
+    KPALUMERE_FIND_IMAGE_WORDS = 4,
+    KPALUMERE_VERSION_WORDS = 1,
+    KPALUMERE_ENTRY_VERSION_WORDS = 1,
+    KPALUMERE_VIEW_WORDS = 1,
+    KPALUMERE_VIEW_ENTRY_WORDS = 5,
+    KPALUMERE_VIEW_PART_WORDS = 2,
+    KPALUMERE_VIEW_VERSION_WORDS = 1,
+    KPALUMERE_EXTEND_WORDS = 1,
+    KPALUMERE_ASPT_READ_WORDS = 22,
+    KPALUMERE_ASPT_WRITE_WORDS = 22,
+    KPALUMERE_GUIDS_WORDS = 2,
+    KPALUMERE_GUID_FIND_WORDS = 3,
+    KPALUMERE_GUID_ENTRY_WORDS = 4,
+    KPALUMERE_GUID_EXTEND_WORDS = 1,
+
+    /* kpalumere_view_entries: three words of the directory, then a row for each entry, of which there are at most 512. */
+    KPALUMERE_MOST_ENTRIES = 512,
+    KPALUMERE_ROW_WORDS = 8,
+    KPALUMERE_VIEW_ENTRIES_WORDS = KPALUMERE_DIRECTORY_WORDS + KPALUMERE_ROW_WORDS * KPALUMERE_MOST_ENTRIES,
+
+    /* kpalumere_directories: a word with their number, then four for each, of which there are at most 257: level one, and one
+     * for each entry of type 0x40, since no two of these have the same of 256 subprograms. */
+    KPALUMERE_MOST_DIRECTORIES = 257,
+    KPALUMERE_ENTERED_WORDS = 4,
+    KPALUMERE_DIRECTORIES_WORDS = 1 + KPALUMERE_ENTERED_WORDS * KPALUMERE_MOST_DIRECTORIES,
+
+    /* The words of a mailbox, and the values that each of its calls is lent beside them; kpalumere_post gives none. */
+    KPALUMERE_MAILBOX_WORDS = 88,
+    KPALUMERE_MAILBOX_VALUES = 1
+};
+
 /* ---- The checksum ---- */
 
 /* The checksum of the lent bytes: Fletcher's 32-bit sum over 16-bit words, as document 01 takes it; a last odd byte has no
@@ -120,6 +204,21 @@ uint64_t kpalumere_find(const uint8_t *image, size_t image_len, uint32_t level, 
 uint64_t kpalumere_find_image(const uint8_t *image, size_t image_len, uint8_t type, uint8_t sub, uint64_t *words,
                               size_t words_len);
 
+/* Every directory of an image: level one, then, for each of its entries of type 0x40 in order, the level two to which it
+ * leads. Where two entries lead to one place, its directory is given twice. These are the directories that
+ * kpalumere_find_image enters where nothing matches, in its order; kpalumere_directory gives of them level one and the first
+ * of level two.
+ *
+ * The first fault refuses all of them: that of level one, or of the first entry of type 0x40 that leads to no good level two.
+ * An image without a level two has one directory, so that 8 is answered only where the EFS has no pointer. It is given no
+ * level, so 9 is never answered.
+ *
+ * Answers 0 and words[0] = how many directories there are, then four words for each: its place, its level, its total, and the
+ * index of the entry of level one that led there, which is 0 for level one itself; 12 where words_len is below 1 + 4 * their
+ * number.
+ */
+uint64_t kpalumere_directories(const uint8_t *image, size_t image_len, uint64_t *words, size_t words_len);
+
 /* ---- Firmware binaries ---- */
 
 /* The firmware version in the 256-byte header that a firmware binary begins with: the four bytes at 0x60, a little-endian
@@ -167,6 +266,16 @@ uint64_t kpalumere_view_entry(const uint8_t *image, size_t image_len, size_t pla
  */
 uint64_t kpalumere_view_part(const uint8_t *image, size_t image_len, size_t place, size_t index, uint64_t *words,
                              size_t words_len);
+
+/* Every entry of the directory that a view holds, and where its bytes lie. The directory is checked once, and each row has
+ * what kpalumere_view_entry and kpalumere_view_part answer for its index.
+ *
+ * Answers 0 and words[0] = the directory's place, words[1] = its level, words[2] = its total, then a row of eight words for
+ * each entry, in order: its type, its subprogram, its size, its location or value, its address mode, then 0 and the place and
+ * the length of its bytes, or the number that refuses them (17, 16 or 7) and 0 and 0; 15, 7, 1, 2, 3, 4, 5, 14 or 18 as
+ * kpalumere_view_entry; 12 where words_len is below 3 + 8 * the total.
+ */
+uint64_t kpalumere_view_entries(const uint8_t *image, size_t image_len, size_t place, uint64_t *words, size_t words_len);
 
 /* The version of the firmware binary that the bytes of an entry are, from a view that holds the image and the place.
  *

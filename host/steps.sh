@@ -164,11 +164,11 @@ check_rust_layout() {
         && echo "every file of host/ is laid out as rustfmt does it"
 }
 
-# Cargo with every warning an error. The lock file is held to be the one that was committed.
+# Cargo with every warning an error.
 run_strict_cargo() { # VERB WORDS...
     choose_compilers
     export CARGO_TARGET_X86_64_UNKNOWN_LINUX_GNU_RUSTFLAGS="$rust_flags -D warnings" CARGO_TERM_COLOR=never
-    run_cargo "$@" --locked --workspace
+    run_cargo "$@" --workspace
 }
 
 # The steps that any repository of this form has.
@@ -192,6 +192,56 @@ check_c() {
     # shellcheck disable=SC2086
     $emulator "$program"
 }
+
+# The programs of docs/LIBRARY.md, in C and in Rust, are built as the page says, and print what stands there of a board that the
+# caller in C writes.
+check_library_page() {
+    local page=$root/docs/LIBRARY.md room status
+    choose_compilers
+    room=$(mktemp -d) || return
+    # In a folder that looks like the repository's to the lines of the page.
+    ln -s "$root/host" "$root/target" "$room/"
+    (cd "$room" && build_and_run_page "$page")
+    status=$?
+    rm -rf "$room"
+    return "$status"
+}
+
+# In a folder of its own, made by `check_library_page`.
+build_and_run_page() { # PAGE
+    block_of_page "$1" c >directories.c
+    block_of_page "$1" console >expected
+    type_console <expected >written || { cat written; return 1; }
+    diff expected written || { echo "< $1, > what its lines print"; return 1; }
+
+    mkdir src
+    block_of_page "$1" toml >Cargo.toml
+    block_of_page "$1" rust >src/main.rs
+    "$cargo" build --quiet --offline --target "$rust_target" --target-dir built || return
+    # shellcheck disable=SC2086
+    $emulator "built/$rust_target/debug/directories" board.rom >written || return
+    diff <(shown_of_directories <expected) written || { echo "< $1, > its program in Rust"; return 1; }
+    echo 'the programs of docs/LIBRARY.md print what stands there'
+}
+
+# Types the lines of a console that begin with a dollar sign, and prints each with what it prints. Where the machine is no x86-64,
+# compiler and emulator are those for it.
+type_console() {
+    local line
+    while IFS= read -r line; do
+        # shellcheck disable=SC2086
+        case $line in
+        '$ cc '*) echo "$line" && "$c_compiler" $c_flags ${line#'$ cc '} ;;
+        '$ '*) echo "$line" && $emulator ${line#'$ '} ;;
+        esac || return
+    done
+}
+
+# What stands in a console below the line that runs the program.
+shown_of_directories() { sed '1,/^\$ \.\/directories /d'; }
+
+# The block of a language in a page; there is one.
+block_of_page() { awk -v begin="\`\`\`$2" '$0 == "```" { on = 0 } on; $0 == begin { on = 1 }' "$1"; } # PAGE LANGUAGE
 
 # The archive, the header, the bindings and the caller in C have the same calls.
 check_exported_names() { # ARCHIVE

@@ -1,10 +1,14 @@
-/* A caller in C: holds the archive to values of document 01 through the header alone. */
+/* A caller in C: holds the archive to values of document 01 through the header alone. With a file's name it writes one of its boards
+ * there in place of that, for the program of docs/LIBRARY.md. */
 #include "../kpalumere.h"
 
 #include <inttypes.h>
 #include <stdio.h>
 #include <stdlib.h>
 #include <string.h>
+
+/* What lent words hold that no call is to write. */
+static const uint64_t untouched = UINT64_C(0xA5A5A5A5A5A5A5A5);
 
 static int failures = 0;
 
@@ -176,6 +180,118 @@ static void check_repeated(void)
     expect("the type of both", 1, words[2]);
     expect("the subprogram of both", 0, words[3]);
     expect("the word behind is kept", 5, words[4]);
+}
+
+/* A board whose level one, at 0x200, leads to a level two at 0x300 and to one at 0x400. It has six entries: with bytes, and of each
+ * kind that has none. The library writes the directories itself. */
+static const uint8_t *board_of_two_leads(size_t *length)
+{
+    static uint8_t image[BOARD_BYTES];
+    uint8_t *one = image + 0x200, *first = image + 0x300, *second = image + 0x400;
+    uint64_t total[1] = {0};
+
+    memcpy(image, board(length), sizeof image);
+    expect("level one is started", 0, kpalumere_start(one, 0x100, 1));
+    kpalumere_extend(one, 0x100, 0x01, 0, 0x100, 0x1000, 1, total, 1);
+    kpalumere_extend(one, 0x100, 0x0B, 0, 0, 0x1234, 0, total, 1);
+    kpalumere_extend(one, 0x100, 0x40, 7, 0, 0x300, 1, total, 1);
+    kpalumere_extend(one, 0x100, 0x02, 0, 1, BOARD_BYTES, 1, total, 1);
+    kpalumere_extend(one, 0x100, 0x03, 5, 2, 3, 3, total, 1);
+    kpalumere_extend(one, 0x100, 0x40, 8, 0, 0x200, 2, total, 1);
+    expect("level one has six entries", 6, total[0]);
+    expect("a level two is started", 0, kpalumere_start(first, 0x100, 2));
+    expect("and another", 0, kpalumere_start(second, 0x100, 2));
+    kpalumere_extend(second, 0x100, 0x05, 6, 0, 0, 2, total, 1);
+    expect("which has one entry", 1, total[0]);
+    return image;
+}
+
+/* The words are these, and those behind them are kept. */
+static void expect_words(const char *what, const uint64_t *expected, size_t count, const uint64_t *words, size_t all)
+{
+    for (size_t i = 0; i < all; i++) {
+        char which[80];
+
+        snprintf(which, sizeof which, "%s, word %u", what, (unsigned)i);
+        expect(which, i < count ? expected[i] : untouched, words[i]);
+    }
+}
+
+/* Fills words with what no call of these checks writes. */
+static void fill_words(uint64_t *words, size_t count)
+{
+    for (size_t i = 0; i < count; i++)
+        words[i] = untouched;
+}
+
+static void check_view_entries(void)
+{
+    /* Three words of the directory, and a row for each of its six entries. */
+    static const uint64_t listed[3 + 6 * KPALUMERE_ROW_WORDS] = {
+        0x200, 1,  6,
+        0x01,  0,  0x100, 0x1000,      1, KPALUMERE_ACCEPTED, 0x1000, 0x100,
+        0x0B,  0,  0,     0x1234,      0, KPALUMERE_VALUE,    0,      0,
+        0x40,  7,  0,     0x300,       1, KPALUMERE_ACCEPTED, 0x300,  0,
+        0x02,  0,  1,     BOARD_BYTES, 1, KPALUMERE_OUTSIDE,  0,      0,
+        0x03,  5,  2,     3,           3, KPALUMERE_MODE,     0,      0,
+        0x40,  8,  0,     0x200,       2, KPALUMERE_ACCEPTED, 0x400,  0};
+    enum { LISTED = sizeof listed / sizeof listed[0] };
+    static uint64_t words[KPALUMERE_VIEW_ENTRIES_WORDS];
+    size_t length, repeats_length;
+    const uint8_t *image = board_of_two_leads(&length);
+    const uint8_t *repeats = board_that_repeats(&repeats_length);
+
+    fill_words(words, KPALUMERE_VIEW_ENTRIES_WORDS);
+    expect("no image", KPALUMERE_IMAGE, kpalumere_view_entries(image, 0, 0, words, KPALUMERE_VIEW_ENTRIES_WORDS));
+    expect("a place beyond the image", KPALUMERE_OUTSIDE,
+           kpalumere_view_entries(image, length, SIZE_MAX, words, KPALUMERE_VIEW_ENTRIES_WORDS));
+    expect("no room for a header", KPALUMERE_SHORT,
+           kpalumere_view_entries(image, length, length - 15, words, KPALUMERE_VIEW_ENTRIES_WORDS));
+    expect("no directory", KPALUMERE_SIGNATURE,
+           kpalumere_view_entries(image, length, 0x201, words, KPALUMERE_VIEW_ENTRIES_WORDS));
+    expect("a directory that repeats", KPALUMERE_REPEATED,
+           kpalumere_view_entries(repeats, repeats_length, 0x200, words, KPALUMERE_VIEW_ENTRIES_WORDS));
+    expect("a word too few", KPALUMERE_ROOM, kpalumere_view_entries(image, length, 0x200, words, LISTED - 1));
+    expect("no words", KPALUMERE_ROOM, kpalumere_view_entries(image, length, 0x200, words, 0));
+    expect_words("nothing is written", listed, 0, words, KPALUMERE_VIEW_ENTRIES_WORDS);
+    expect("as many words as are written", KPALUMERE_ACCEPTED, kpalumere_view_entries(image, length, 0x200, words, LISTED));
+    expect_words("every entry", listed, LISTED, words, KPALUMERE_VIEW_ENTRIES_WORDS);
+    fill_words(words, KPALUMERE_VIEW_ENTRIES_WORDS);
+    expect("more words than that", KPALUMERE_ACCEPTED,
+           kpalumere_view_entries(image, length, 0x200, words, KPALUMERE_VIEW_ENTRIES_WORDS));
+    expect_words("every entry", listed, LISTED, words, KPALUMERE_VIEW_ENTRIES_WORDS);
+}
+
+static void check_directories(void)
+{
+    /* Their number, and four words for each: the entries 2 and 5 of level one lead. */
+    static const uint64_t listed[1 + 3 * KPALUMERE_ENTERED_WORDS] = {3, 0x200, 1, 6, 0, 0x300, 2, 0, 2, 0x400, 2, 1, 5};
+    static const uint64_t alone[1 + KPALUMERE_ENTERED_WORDS] = {1, 0x200, 1, 1, 0};
+    enum { LISTED = sizeof listed / sizeof listed[0], ALONE = sizeof alone / sizeof alone[0] };
+    static uint8_t damaged[BOARD_BYTES];
+    static uint64_t words[KPALUMERE_DIRECTORIES_WORDS];
+    size_t length;
+    const uint8_t *image = board_of_two_leads(&length);
+
+    memcpy(damaged, image, length);
+    damaged[0x404] ^= 1;
+    fill_words(words, KPALUMERE_DIRECTORIES_WORDS);
+    expect("no image", KPALUMERE_IMAGE, kpalumere_directories(image, 0, words, KPALUMERE_DIRECTORIES_WORDS));
+    expect("no EFS", KPALUMERE_SIGNATURE, kpalumere_directories(image, 1, words, KPALUMERE_DIRECTORIES_WORDS));
+    expect("a fault behind the second lead", KPALUMERE_CHECKSUM,
+           kpalumere_directories(damaged, length, words, KPALUMERE_DIRECTORIES_WORDS));
+    expect("of which the first level two knows nothing", KPALUMERE_ACCEPTED,
+           kpalumere_directory(damaged, length, 2, words, KPALUMERE_DIRECTORY_WORDS));
+    fill_words(words, KPALUMERE_DIRECTORY_WORDS);
+    expect("a word too few", KPALUMERE_ROOM, kpalumere_directories(image, length, words, LISTED - 1));
+    expect("no words", KPALUMERE_ROOM, kpalumere_directories(image, length, words, 0));
+    expect_words("nothing is written", listed, 0, words, KPALUMERE_DIRECTORIES_WORDS);
+    expect("as many words as are written", KPALUMERE_ACCEPTED, kpalumere_directories(image, length, words, LISTED));
+    expect_words("every directory", listed, LISTED, words, KPALUMERE_DIRECTORIES_WORDS);
+    fill_words(words, KPALUMERE_DIRECTORIES_WORDS);
+    image = board(&length);
+    expect("level one alone", KPALUMERE_ACCEPTED, kpalumere_directories(image, length, words, KPALUMERE_DIRECTORIES_WORDS));
+    expect_words("one directory", alone, ALONE, words, KPALUMERE_DIRECTORIES_WORDS);
 }
 
 static void check_version(void)
@@ -422,18 +538,74 @@ static void check_guids(void)
     expect("value M10", 3, kpalumere_guids(buffer, sizeof buffer, words, 2));
 }
 
+/* A call that has a fixed number of words to write is accepted with so many, and with one fewer it is refused. The other arguments
+ * come before the words. */
+#define EXPECT_COUNT(call, count, ...)                                                                    \
+    do {                                                                                                  \
+        expect(#call " with " #count, KPALUMERE_ACCEPTED, call(__VA_ARGS__, words, count));              \
+        expect(#call " with one fewer", KPALUMERE_ROOM, call(__VA_ARGS__, words, count - 1));            \
+    } while (0)
+
+/* The counts that the header has by name. */
+static void check_counts(void)
+{
+    static uint8_t image[BOARD_BYTES];
+    size_t length, repeats_length;
+    const uint8_t *repeats = board_that_repeats(&repeats_length);
+    uint8_t table[112], guest[100] = {0};
+    uint64_t words[KPALUMERE_ASPT_READ_WORDS] = {0};
+
+    memcpy(image, board_of_two_leads(&length), sizeof image);
+    memset(image + 0x1000, 0, 0x100);
+    memcpy(image + 0x1010, "$PS1", 4);
+    EXPECT_COUNT(kpalumere_checksum, KPALUMERE_CHECKSUM_WORDS, image, length);
+    EXPECT_COUNT(kpalumere_efs, KPALUMERE_EFS_WORDS, image, length);
+    EXPECT_COUNT(kpalumere_pointer, KPALUMERE_POINTER_WORDS, image, length);
+    EXPECT_COUNT(kpalumere_directory, KPALUMERE_DIRECTORY_WORDS, image, length, 1);
+    EXPECT_COUNT(kpalumere_repeated, KPALUMERE_REPEATED_WORDS, repeats, repeats_length, 1);
+    EXPECT_COUNT(kpalumere_entry, KPALUMERE_ENTRY_WORDS, image, length, 1, 0);
+    EXPECT_COUNT(kpalumere_part, KPALUMERE_PART_WORDS, image, length, 1, 0);
+    EXPECT_COUNT(kpalumere_find, KPALUMERE_FIND_WORDS, image, length, 1, 1, 0);
+    EXPECT_COUNT(kpalumere_find_image, KPALUMERE_FIND_IMAGE_WORDS, image, length, 1, 0);
+    EXPECT_COUNT(kpalumere_version, KPALUMERE_VERSION_WORDS, image + 0x1000, 0x100);
+    EXPECT_COUNT(kpalumere_entry_version, KPALUMERE_ENTRY_VERSION_WORDS, image, length, 1, 0);
+    EXPECT_COUNT(kpalumere_view, KPALUMERE_VIEW_WORDS, image, length, 1);
+    EXPECT_COUNT(kpalumere_view_entry, KPALUMERE_VIEW_ENTRY_WORDS, image, length, 0x200, 0);
+    EXPECT_COUNT(kpalumere_view_part, KPALUMERE_VIEW_PART_WORDS, image, length, 0x200, 0);
+    EXPECT_COUNT(kpalumere_view_version, KPALUMERE_VIEW_VERSION_WORDS, image, length, 0x200, 0);
+    expect("a table is written", KPALUMERE_ACCEPTED,
+           kpalumere_aspt_write(table, sizeof table, aspt_table, KPALUMERE_ASPT_WRITE_WORDS));
+    expect("but not of a word fewer", KPALUMERE_SHORT,
+           kpalumere_aspt_write(table, sizeof table, aspt_table, KPALUMERE_ASPT_WRITE_WORDS - 1));
+    EXPECT_COUNT(kpalumere_aspt_read, KPALUMERE_ASPT_READ_WORDS, table, sizeof table);
+    expect("a GUID table is started", KPALUMERE_ACCEPTED, kpalumere_guid_start(guest, sizeof guest));
+    expect("no word for its total", KPALUMERE_ROOM,
+           kpalumere_guid_extend(guest, sizeof guest, 5, 6, table, 1, words, KPALUMERE_GUID_EXTEND_WORDS - 1));
+    expect("a word for its total", KPALUMERE_ACCEPTED,
+           kpalumere_guid_extend(guest, sizeof guest, 5, 6, table, 1, words, KPALUMERE_GUID_EXTEND_WORDS));
+    EXPECT_COUNT(kpalumere_guids, KPALUMERE_GUIDS_WORDS, guest, sizeof guest);
+    EXPECT_COUNT(kpalumere_guid_find, KPALUMERE_GUID_FIND_WORDS, guest, sizeof guest, 5, 6);
+    EXPECT_COUNT(kpalumere_guid_entry, KPALUMERE_GUID_ENTRY_WORDS, guest, sizeof guest, 0);
+    expect("no word for a directory's total", KPALUMERE_ROOM,
+           kpalumere_extend(image + 0x300, 0x100, 1, 0, 0, 0, 1, words, KPALUMERE_EXTEND_WORDS - 1));
+    expect("a word for a directory's total", KPALUMERE_ACCEPTED,
+           kpalumere_extend(image + 0x300, 0x100, 1, 0, 0, 0, 1, words, KPALUMERE_EXTEND_WORDS));
+}
+
 static void check_mailbox(void)
 {
-    uint64_t words[89] = {0};
-    uint64_t values[1] = {0};
+    uint64_t words[KPALUMERE_MAILBOX_WORDS + 1] = {0};
+    uint64_t values[KPALUMERE_MAILBOX_VALUES] = {0};
 
-    words[88] = 7;
-    expect("a fresh mailbox", 0, kpalumere_mailbox_fresh(words, 89));
-    expect("the word behind is kept", 7, words[88]);
+    words[KPALUMERE_MAILBOX_WORDS] = 7;
+    expect("a word too few", KPALUMERE_ROOM, kpalumere_mailbox_fresh(words, KPALUMERE_MAILBOX_WORDS - 1));
+    expect("a fresh mailbox", 0, kpalumere_mailbox_fresh(words, KPALUMERE_MAILBOX_WORDS + 1));
+    expect("the word behind is kept", 7, words[KPALUMERE_MAILBOX_WORDS]);
     expect("a post is accepted", 0, kpalumere_post(words, 89, values, 0, 5, 0x81, 0));
     expect("another of its caller is not", 10, kpalumere_post(words, 89, values, 0, 5, 0x81, 0));
     expect("a command above 0x3FF is not", 9, kpalumere_post(words, 89, values, 0, 6, 0x400, 0));
-    expect("a load", 0, kpalumere_load(words, 89, values, 1));
+    expect("no value for whether it acts", KPALUMERE_ROOM, kpalumere_load(words, 89, values, KPALUMERE_MAILBOX_VALUES - 1));
+    expect("a load", 0, kpalumere_load(words, 89, values, KPALUMERE_MAILBOX_VALUES));
     expect("acts", 1, values[0]);
     expect("its word is not there yet", 11, kpalumere_take(words, 89, values, 1, 5));
     expect("a turn", 0, kpalumere_turn(words, 89, values, 1));
@@ -447,8 +619,24 @@ static void check_mailbox(void)
     expect("too few are no mailbox", 5, kpalumere_load(words, 87, values, 1));
 }
 
-int main(void)
+/* Writes the board with two leads into a file. */
+static int write_board(const char *name)
 {
+    size_t length;
+    const uint8_t *image = board_of_two_leads(&length);
+    FILE *file = fopen(name, "wb");
+
+    if (file == NULL || fwrite(image, 1, length, file) != length || fclose(file) != 0) {
+        perror(name);
+        return 1;
+    }
+    return failures != 0;
+}
+
+int main(int argc, char **argv)
+{
+    if (argc == 2)
+        return write_board(argv[1]);
     check_checksum();
     check_flash();
     check_window();
@@ -456,6 +644,9 @@ int main(void)
     check_version();
     check_entry_version();
     check_view();
+    check_view_entries();
+    check_directories();
+    check_counts();
     check_build();
     check_build_repeated();
     check_aspt();

@@ -1,8 +1,8 @@
 //! The calls that stand beside document 01's and have no line in the ask language (the EFS, the directory pointer, the entries
-//! that repeat, a firmware binary's version, that of an entry, and the entry at an index of a GUID table), set side by side: the
-//! library by its bindings, and the second program.
+//! that repeat, all entries of a directory, all directories of an image, a firmware binary's version, that of an entry, and the
+//! entry at an index of a GUID table), set side by side: the library by its bindings, and the second program.
 
-use agree::board::{entry, Board, LENGTH, LEVEL_ONE, LEVEL_TWO, WINDOW};
+use agree::board::{entry, Board, EFS, LENGTH, LEVEL_ONE, LEVEL_TWO, WINDOW};
 use agree::cases;
 use agree::random::Random;
 use agree::subjects::directory::{tell_apart, Directory, Entry, CLASSES, LEAD, SUBPROGRAMS};
@@ -81,6 +81,68 @@ fn repeated_by_both(image: &[u8], level: u32) -> [Told; 2] {
                 repeat.kind.into(),
                 repeat.subprogram.into(),
             ]
+        }),
+    ]
+}
+
+fn entries_by_both(image: &[u8], place: u64) -> [Told; 2] {
+    let mut words = bindings::Words::new();
+    let library = bindings::view_entries(image, place as usize, &mut words);
+    [
+        by_library(library, |entries| {
+            let directory = entries.directory;
+            let mut values = vec![directory.place, directory.level, directory.total];
+            for row in entries.rows() {
+                let entry = row.entry;
+                values.extend([entry.class, entry.subprogram, entry.size]);
+                values.extend([entry.location, entry.mode]);
+                values.extend(match row.part {
+                    Ok(part) => [0, part.place, part.length],
+                    Err(refusal) => [refusal.number, 0, 0],
+                });
+            }
+            values
+        }),
+        by_second(
+            second::flash::all_entries(image, place),
+            |(directory, all)| {
+                let mut values = directory_values(&directory);
+                for one in all {
+                    let entry = one.entry;
+                    values.extend([entry.kind, entry.subprogram].map(u64::from));
+                    values.extend([entry.size.into(), entry.location, entry.mode.into()]);
+                    values.extend(match one.bytes {
+                        Ok(part) => [0, part.place, part.length],
+                        Err(refusal) => [refusal.number.into(), 0, 0],
+                    });
+                }
+                values
+            },
+        ),
+    ]
+}
+
+fn directory_values(directory: &second::flash::Directory) -> Vec<u64> {
+    let level = directory.level.number();
+    vec![directory.place, level.into(), directory.total.into()]
+}
+
+fn directories_by_both(image: &[u8]) -> [Told; 2] {
+    [
+        by_library(bindings::directories(image), |all| {
+            let values = all.into_iter().flat_map(|entered| {
+                let directory = entered.directory;
+                let place = [directory.place, directory.level, directory.total];
+                place.into_iter().chain([entered.lead])
+            });
+            values.collect()
+        }),
+        by_second(second::flash::all_directories(image), |all| {
+            let values = all.into_iter().flat_map(|reached| {
+                let directory = directory_values(&reached.directory);
+                directory.into_iter().chain([reached.lead])
+            });
+            values.collect()
         }),
     ]
 }
@@ -619,10 +681,8 @@ fn number_of(word: &str) -> usize {
     number.expect("a recorded script has numbers in these places")
 }
 
-#[test]
-fn both_name_the_same_entries_of_every_recorded_image() {
-    let mut seen = Seen::default();
-    let mut asked = 0;
+/// Hands over every image that a recorded script asks for a directory, and where it does.
+fn recorded_images(mut each: impl FnMut(&[u8], &str)) {
     let all = cases::all().expect("the cases can be read");
     for case in all.iter().filter(|case| case.name.starts_with("images/")) {
         let script = String::from_utf8(case.script.clone()).expect("a script of a board is text");
@@ -646,17 +706,288 @@ fn both_name_the_same_entries_of_every_recorded_image() {
                     buffer[place..place + bytes.len()].copy_from_slice(&bytes);
                 }
                 ["directory", name, _] => {
-                    let image = &buffers[*name];
-                    for level in [1, 2] {
-                        let whence = format!("{}.ask, line {number}, level {level}", case.name);
-                        seen.note(repeated_by_both(image, level), &whence);
-                        asked += 1;
-                    }
+                    each(
+                        &buffers[*name],
+                        &format!("{}.ask, line {number}", case.name),
+                    );
                 }
                 _ => (),
             }
         }
     }
+}
+
+#[test]
+fn both_name_the_same_entries_of_every_recorded_image() {
+    let mut seen = Seen::default();
+    let mut asked = 0;
+    recorded_images(|image, whence| {
+        for level in [1, 2] {
+            let whence = format!("{whence}, level {level}");
+            seen.note(repeated_by_both(image, level), &whence);
+            asked += 1;
+        }
+    });
     assert!(asked > 100, "{asked} images were asked");
     seen.hold_at_least(&[0, 1, 2, 3, 4, 5, 7, 8, 14, 15, 16, 18]);
+}
+
+// ---- all entries of a directory, and all directories of an image
+
+/// Where boards of many leads have level two: the board's own, and two more.
+const LEVELS_TWO: [usize; 3] = [LEVEL_TWO, 0x3_0000, 0x3_8000];
+
+/// An image of the board in which directories of level two begin at the places of `LEVELS_TWO`.
+fn image_of_levels(one: Directory, two: &[Directory; 3]) -> Vec<u8> {
+    let mut image = Board::with(|board| board.one = one);
+    for (place, two) in LEVELS_TWO.iter().zip(two) {
+        let bytes = two.bytes();
+        image[*place..place + bytes.len()].copy_from_slice(&bytes);
+    }
+    image
+}
+
+/// Directories of level two with none, one and two entries.
+fn small_levels_two() -> [Directory; 3] {
+    [0, 1, 2].map(|total| {
+        let entries = (0..total).map(|i| entry(1, i, 0x10, 0x1000, 1));
+        Directory::of(2, entries.collect())
+    })
+}
+
+/// Level one with a lead for each of these places, behind an entry that is none.
+fn level_one_leading_to(places: &[u64]) -> Directory {
+    let leads = places.iter().enumerate();
+    let leads = leads.map(|(i, place)| entry(LEAD, i as u8, 0, *place, 1));
+    let entries = std::iter::once(entry(1, 0, 0, 0, 1)).chain(leads);
+    Directory::of(1, entries.collect())
+}
+
+/// Both programs tell these directories: place, level, total and lead of each.
+#[track_caller]
+fn both_tell_directories(image: &[u8], expected: &[[u64; 4]]) {
+    let expected = Ok(expected.concat());
+    assert_eq!(directories_by_both(image), [expected.clone(), expected]);
+}
+
+#[track_caller]
+fn both_refuse_directories(image: &[u8], number: u64) {
+    let expected = refused(number);
+    assert_eq!(directories_by_both(image), [expected.clone(), expected]);
+}
+
+#[test]
+fn both_tell_every_directory_and_the_entry_that_led_there() {
+    let [first, second, third] = LEVELS_TWO.map(|place| place as u64);
+    let one = |total| [LEVEL_ONE as u64, 1, total, 0];
+    let image = |places: &[u64]| image_of_levels(level_one_leading_to(places), &small_levels_two());
+    both_tell_directories(&image(&[]), &[one(1)]);
+    both_tell_directories(&image(&[first]), &[one(2), [first, 2, 0, 1]]);
+    both_tell_directories(
+        &image(&[third, first, second]),
+        &[
+            one(4),
+            [third, 2, 2, 1],
+            [first, 2, 0, 2],
+            [second, 2, 1, 3],
+        ],
+    );
+    // Two leads to one place are two directories of the walk.
+    both_tell_directories(
+        &image(&[second, second]),
+        &[one(3), [second, 2, 1, 1], [second, 2, 1, 2]],
+    );
+    // As many as there can be: a lead for each subprogram.
+    let mut expected = vec![one(257)];
+    expected.extend((1..=256).map(|lead| [third, 2, 2, lead]));
+    both_tell_directories(&image(&[third; 256]), &expected);
+}
+
+#[test]
+fn both_tell_the_first_fault_of_all_directories() {
+    let [first, second, third] = LEVELS_TWO.map(|place| place as u64);
+    let end = LENGTH as u64;
+    let leading =
+        |places: &[u64]| image_of_levels(level_one_leading_to(places), &small_levels_two());
+    // Of several faults the first lead's, whichever stands behind it.
+    for (places, number) in [
+        ([first, second, end + 1], Refusal::OUTSIDE),
+        ([first, end, end + 1], Refusal::SHORT),
+        ([end + 1, end, first], Refusal::OUTSIDE),
+        ([LEVEL_ONE as u64, first, end], Refusal::SIGNATURE),
+        ([third, 0, end], Refusal::SIGNATURE),
+    ] {
+        both_refuse_directories(&leading(&places), number);
+    }
+    let places = [first, second, third];
+    let faults: [(&dyn Fn(&mut Directory), u64); 7] = [
+        (&|two| two.cookie = [0; 4], Refusal::SIGNATURE),
+        (&|two| two.total = 513, Refusal::LIMITS),
+        (&|two| two.wrong = 1, Refusal::CHECKSUM),
+        (&|two| two.reserved = 1, Refusal::FIELD),
+        (&|two| two.entries[1].reserved = 1, Refusal::FIELD),
+        (&|two| two.entries[1].class = LEAD, Refusal::MISPLACED),
+        (&|two| two.entries[1].subprogram = 0, Refusal::REPEATED),
+    ];
+    for (fault, number) in faults {
+        let mut two = small_levels_two();
+        fault(&mut two[2]);
+        let image = image_of_levels(level_one_leading_to(&places), &two);
+        both_refuse_directories(&image, number);
+        // Where no entry leads there it has no part in the answer.
+        let image = image_of_levels(level_one_leading_to(&places[..2]), &two);
+        let expected = [
+            [LEVEL_ONE as u64, 1, 3, 0],
+            [first, 2, 0, 1],
+            [second, 2, 1, 2],
+        ];
+        both_tell_directories(&image, &expected);
+    }
+    let mut one = level_one_leading_to(&[end + 1]);
+    one.entries[0].class = LEAD;
+    let repeats = image_of_levels(one, &small_levels_two());
+    both_refuse_directories(&repeats, Refusal::REPEATED);
+    let mut one = level_one_leading_to(&[first, second]);
+    one.entries[2].word = second | 3 << 62;
+    let mode = image_of_levels(one, &small_levels_two());
+    both_refuse_directories(&mode, Refusal::MODE);
+    both_refuse_directories(&Board::with(|board| board.late = 0), Refusal::ABSENT);
+    both_refuse_directories(&[], Refusal::IMAGE);
+    both_refuse_directories(&[0], Refusal::SIGNATURE);
+}
+
+/// An entry that leads, mostly to a level two, by any mode.
+fn random_lead(random: &mut Random) -> Entry {
+    let place = match random.below(40) {
+        0 => random.one_of(&[LEVEL_ONE, LENGTH - 8, LENGTH, LENGTH + 1]),
+        _ => random.one_of(&LEVELS_TWO),
+    } as u64;
+    let (mode, location) = match random.below(30) {
+        0 => (3, place),
+        1..=9 => (0, WINDOW + place),
+        10..=19 => (2, place - LEVEL_ONE as u64),
+        _ => (1, place),
+    };
+    entry(LEAD, random.number() as u8, 0, location, mode)
+}
+
+/// Level one with some leads in any places among entries of every kind.
+fn random_level_one(random: &mut Random) -> Directory {
+    let others = random.one_of(&[0, 1, 2, 5, 40]);
+    let mut entries: Vec<Entry> = (0..others).map(|_| random_row(random)).collect();
+    for _ in 0..random.one_of(&[0, 1, 1, 2, 2, 3, 4, 30]) {
+        let place = random.below(entries.len() as u64 + 1) as usize;
+        entries.insert(place, random_lead(random));
+    }
+    tell_apart(random, &mut entries);
+    let mut one = Directory::of(1, entries);
+    if random.once_in(10) {
+        one.break_one(random);
+    }
+    one
+}
+
+/// An entry that leads nowhere: with bytes at any limit of the image, or with none.
+fn random_row(random: &mut Random) -> Entry {
+    let class = match random.one_of(&CLASSES) {
+        LEAD => 0x13,
+        class => class,
+    };
+    let size = random.one_of(&[0, 1, 0x100, LENGTH as u32, u32::MAX]);
+    let mode = random.below(4);
+    let place = random.one_of(&[0, 1, LENGTH - 0x100, LENGTH - 1, LENGTH, LENGTH + 1]) as u64;
+    let location = match (mode, random.below(8)) {
+        (_, 0) => random.number() >> 2,
+        (0, _) => WINDOW - 1 + place,
+        (2, _) => place.saturating_sub(random.one_of(&LEVELS_TWO) as u64),
+        _ => place,
+    };
+    entry(class, random.one_of(&SUBPROGRAMS), size, location, mode)
+}
+
+fn random_level_two(random: &mut Random) -> Directory {
+    let total = match random.below(40) {
+        0 => 512,
+        _ => random.one_of(&[0, 1, 2, 5, 40]),
+    };
+    let mut entries: Vec<Entry> = (0..total).map(|_| random_row(random)).collect();
+    tell_apart(random, &mut entries);
+    let mut two = Directory::of(2, entries);
+    if random.once_in(10) {
+        two.break_one(random);
+    }
+    two
+}
+
+/// A place where a directory may begin, or about a limit of the image.
+fn random_place(random: &mut Random) -> u64 {
+    let [first, second, third] = LEVELS_TWO;
+    let places = [LEVEL_ONE, first, second, third, 0, LENGTH - 16, LENGTH];
+    let place = random.one_of(&places) as u64;
+    match random.below(8) {
+        0 => random.below(LENGTH as u64 + 2),
+        1 => place + random.one_of(&[1, 15, 1 << 32]),
+        2 => random.one_of(&[u64::MAX, 1 << 63]),
+        _ => place,
+    }
+}
+
+/// The numbers that stand in the rows of an answer, where it is given.
+fn part_numbers(told: &Told) -> impl Iterator<Item = u64> + '_ {
+    let rows = told.iter().flat_map(|values| values[3..].chunks(8));
+    rows.map(|row| row[5])
+}
+
+#[test]
+fn both_tell_the_same_of_random_boards_of_many_leads() {
+    let seed = seed_for("all directories and all entries");
+    let mut random = Random::from_seed(seed);
+    let (mut directories, mut entries) = (Seen::default(), Seen::default());
+    let mut parts = BTreeSet::new();
+    let mut most = 0;
+    for trial in 0..TRIALS / 4 {
+        let one = random_level_one(&mut random);
+        let two = [(); 3].map(|()| random_level_two(&mut random));
+        let mut image = image_of_levels(one, &two);
+        if random.once_in(12) {
+            let value = pointer_value(&mut random, LENGTH);
+            image[EFS + 0x14..EFS + 0x18].copy_from_slice(&value.to_le_bytes());
+        }
+        if random.once_in(16) {
+            // The window moves with the end, and a directory may be cut off.
+            let cut = random.one_of(&[0, 1, LEVEL_ONE + 20, LENGTH - 1]);
+            image.truncate(cut);
+        }
+        let whence = format!("seed {seed}, trial {trial}");
+        let told = directories_by_both(&image);
+        most = most.max(told[0].as_ref().map_or(0, |values| values.len() / 4));
+        directories.note(told, &whence);
+        for _ in 0..4 {
+            let place = random_place(&mut random);
+            let told = entries_by_both(&image, place);
+            parts.extend(part_numbers(&told[0]));
+            entries.note(told, &format!("{whence}, place {place:#x}"));
+        }
+    }
+    directories.hold(&[0, 1, 2, 3, 4, 5, 7, 8, 14, 15, 16, 18]);
+    entries.hold(&[0, 1, 2, 3, 4, 5, 7, 14, 15, 18]);
+    assert_eq!(parts, BTreeSet::from([0, 7, 16, 17]));
+    assert!(most > 8, "no image had more than {most} directories");
+}
+
+#[test]
+fn both_tell_the_same_directories_and_entries_of_every_recorded_image() {
+    let (mut directories, mut entries) = (Seen::default(), Seen::default());
+    recorded_images(|image, whence| {
+        directories.note(directories_by_both(image), whence);
+        // Where a level begins, as far as it is known, and where none does.
+        let pointer = bindings::pointer(image).map_or(0, |pointer| pointer.place);
+        let two = bindings::view(image, 2).unwrap_or(1);
+        for place in [pointer, two, image.len() as u64 / 2, image.len() as u64 + 1] {
+            let whence = format!("{whence}, place {place:#x}");
+            entries.note(entries_by_both(image, place), &whence);
+        }
+    });
+    directories.hold_at_least(&[0, 1, 2, 3, 4, 5, 7, 8, 14, 15, 16, 18]);
+    entries.hold_at_least(&[0, 1, 2, 3, 4, 5, 7, 15, 18]);
 }

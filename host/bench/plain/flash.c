@@ -1,4 +1,5 @@
-/* Flash images: from the EFS to the directories, their entries and bytes, the two lookups, and the writing of a directory. */
+/* Flash images: from the EFS to the directories, their entries and bytes, one by one or all at once, the two lookups, and the writing
+ * of a directory. */
 #include "plain.h"
 
 #include <string.h>
@@ -7,7 +8,6 @@ enum {
     LONGEST_IMAGE = 16777216,
     HEADER_BYTES = 16,
     ENTRY_BYTES = 16,
-    MOST_ENTRIES = 512,
     FEW_ENTRIES = 64,
     PAIRS = 65536, /* of a type and a subprogram */
     TYPE_LEVEL_TWO = 0x40,
@@ -43,6 +43,12 @@ uint32_t plain_checksum(const uint8_t *bytes, size_t length)
 static const char *cookie_of(uint32_t level)
 {
     return level == 1 ? "$PSP" : "$PL2";
+}
+
+/* The level of the directory that these bytes begin with. Level one stands for bytes that begin with none: its check tells. */
+static uint32_t level_by_cookie(const uint8_t *bytes, size_t length)
+{
+    return length >= HEADER_BYTES && memcmp(bytes, cookie_of(2), 4) == 0 ? 2 : 1;
 }
 
 /* An entry by itself: its reserved bits, and whether it may stand in a directory of the level. */
@@ -117,7 +123,7 @@ static int check_directory(const uint8_t *bytes, size_t length, uint64_t place, 
     if (memcmp(header, cookie_of(level), 4) != 0)
         return PLAIN_SIGNATURE;
     total = get32(header + 8);
-    if (total > MOST_ENTRIES)
+    if (total > PLAIN_MOST_ENTRIES)
         return PLAIN_LIMITS;
     if (left - HEADER_BYTES < (size_t)total * ENTRY_BYTES)
         return PLAIN_SHORT;
@@ -270,24 +276,80 @@ int plain_entry_of(const uint8_t *image, const struct plain_directory *directory
     return PLAIN_OK;
 }
 
+/* Where the bytes of an entry lie, in the directory at `place`. */
+static int locate(const struct plain_entry *entry, size_t length, uint64_t place, struct plain_part *part)
+{
+    uint64_t offset;
+    int answer;
+
+    if (entry->type == TYPE_VALUE)
+        return PLAIN_VALUE;
+    answer = follow(entry, length, place, &offset);
+    if (answer != PLAIN_OK)
+        return answer;
+    if (offset > length || entry->size > length - offset)
+        return PLAIN_OUTSIDE;
+    part->place = offset;
+    part->length = entry->size;
+    return PLAIN_OK;
+}
+
 int plain_part_of(const uint8_t *image, size_t length, const struct plain_directory *directory, uint64_t index,
                   struct plain_part *part)
 {
     struct plain_entry entry;
-    uint64_t place;
     int answer = plain_entry_of(image, directory, index, &entry);
+
+    return answer != PLAIN_OK ? answer : locate(&entry, length, directory->place, part);
+}
+
+void plain_entries_of(const uint8_t *image, size_t length, const struct plain_directory *directory, struct plain_row *rows)
+{
+    for (uint32_t i = 0; i < directory->total; i++) {
+        rows[i].entry = read_entry(entry_bytes(image, directory, i));
+        rows[i].answer = locate(&rows[i].entry, length, directory->place, &rows[i].part);
+    }
+}
+
+int plain_view_entries(const uint8_t *image, size_t length, uint64_t place, struct plain_row *rows,
+                       struct plain_directory *found)
+{
+    int answer;
+
+    if (length == 0 || length > LONGEST_IMAGE)
+        return PLAIN_IMAGE;
+    if (place > length)
+        return PLAIN_OUTSIDE;
+    answer = check_directory(image, length, place, level_by_cookie(image + place, length - place), found);
+    if (answer != PLAIN_OK)
+        return answer;
+    plain_entries_of(image, length, found, rows);
+    return PLAIN_OK;
+}
+
+int plain_directories(const uint8_t *image, size_t length, struct plain_entered *entered, uint32_t *count)
+{
+    const struct plain_directory *one = &entered[0].directory;
+    uint32_t found = 1;
+    int answer = level_one(image, length, &entered[0].directory);
 
     if (answer != PLAIN_OK)
         return answer;
-    if (entry.type == TYPE_VALUE)
-        return PLAIN_VALUE;
-    answer = follow(&entry, length, directory->place, &place);
-    if (answer != PLAIN_OK)
-        return answer;
-    if (place > length || entry.size > length - place)
-        return PLAIN_OUTSIDE;
-    part->place = place;
-    part->length = entry.size;
+    entered[0].lead = 0;
+    for (uint32_t i = 0; i < one->total; i++) {
+        const uint8_t *at = entry_bytes(image, one, i);
+        struct plain_entry entry;
+
+        if (at[0] != TYPE_LEVEL_TWO)
+            continue;
+        entry = read_entry(at);
+        answer = level_two(image, length, one, &entry, &entered[found].directory);
+        if (answer != PLAIN_OK)
+            return answer;
+        entered[found].lead = i;
+        found++;
+    }
+    *count = found;
     return PLAIN_OK;
 }
 
@@ -398,7 +460,7 @@ int plain_start(uint8_t *buffer, size_t length, uint32_t level)
 int plain_extend(uint8_t *buffer, size_t length, const struct plain_entry *entry, uint32_t *total)
 {
     struct plain_directory directory;
-    uint32_t level = length >= HEADER_BYTES && memcmp(buffer, cookie_of(2), 4) == 0 ? 2 : 1;
+    uint32_t level = level_by_cookie(buffer, length);
     int answer = check_directory(buffer, length, 0, level, &directory);
     uint8_t *at;
 
@@ -410,7 +472,7 @@ int plain_extend(uint8_t *buffer, size_t length, const struct plain_entry *entry
         return PLAIN_MISPLACED;
     if (holds_pair(buffer + HEADER_BYTES, directory.total, (uint16_t)(entry->type | entry->subprogram << 8)))
         return PLAIN_REPEATED;
-    if (directory.total == MOST_ENTRIES)
+    if (directory.total == PLAIN_MOST_ENTRIES)
         return PLAIN_LIMITS;
     if (length < HEADER_BYTES + (size_t)(directory.total + 1) * ENTRY_BYTES)
         return PLAIN_ROOM;

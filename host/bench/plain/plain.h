@@ -89,6 +89,19 @@ struct plain_part {
     uint64_t length;
 };
 
+/* An entry, and where its bytes lie: `answer` is PLAIN_OK, or the number that refuses the part, which then means nothing. */
+struct plain_row {
+    struct plain_entry entry;
+    int answer;
+    struct plain_part part;
+};
+
+/* A directory that the walk through an image enters, and the index of the entry of level one that led there: 0 for level one. */
+struct plain_entered {
+    struct plain_directory directory;
+    uint64_t lead;
+};
+
 struct plain_match {
     uint64_t index;
     uint64_t tested;
@@ -113,6 +126,19 @@ int plain_find_image(const uint8_t *image, size_t length, uint8_t type, uint8_t 
 int plain_entry_of(const uint8_t *image, const struct plain_directory *directory, uint64_t index, struct plain_entry *entry);
 int plain_part_of(const uint8_t *image, size_t length, const struct plain_directory *directory, uint64_t index,
                   struct plain_part *part);
+
+/* The most entries of a directory, and the most directories of an image: level one, and one for each subprogram that a lead has. */
+enum { PLAIN_MOST_ENTRIES = 512, PLAIN_MOST_DIRECTORIES = 257 };
+
+/* Every entry of the directory at a place, of the level that its cookie says. `rows` has room for as many as there can be. */
+int plain_view_entries(const uint8_t *image, size_t length, uint64_t place, struct plain_row *rows,
+                       struct plain_directory *found);
+
+/* The same of a directory that was found in the same image. Nothing is checked again. */
+void plain_entries_of(const uint8_t *image, size_t length, const struct plain_directory *directory, struct plain_row *rows);
+
+/* Every directory that the walk through an image enters, in its order. `entered` has room for as many as there can be. */
+int plain_directories(const uint8_t *image, size_t length, struct plain_entered *entered, uint32_t *count);
 
 int plain_start(uint8_t *buffer, size_t length, uint32_t level);
 int plain_extend(uint8_t *buffer, size_t length, const struct plain_entry *entry, uint32_t *total);

@@ -32,6 +32,25 @@ pub struct Part {
 
 #[repr(C)]
 #[derive(Clone, Copy, Default)]
+pub struct Row {
+    pub entry: Entry,
+    pub answer: Number,
+    pub part: Part,
+}
+
+#[repr(C)]
+#[derive(Clone, Copy, Default)]
+pub struct Entered {
+    pub directory: Directory,
+    pub lead: u64,
+}
+
+// Names for the numbers of the enum of what there is at most.
+pub const MOST_ENTRIES: usize = 512;
+pub const MOST_DIRECTORIES: usize = 257;
+
+#[repr(C)]
+#[derive(Clone, Copy, Default)]
 pub struct Match {
     pub index: u64,
     pub tested: u64,
@@ -221,6 +240,28 @@ extern "C" {
         directory: *const Directory,
         index: u64,
         part: *mut Part,
+    ) -> Number;
+
+    pub fn plain_view_entries(
+        image: *const u8,
+        length: usize,
+        place: u64,
+        rows: *mut Row,
+        found: *mut Directory,
+    ) -> Number;
+
+    pub fn plain_entries_of(
+        image: *const u8,
+        length: usize,
+        directory: *const Directory,
+        rows: *mut Row,
+    );
+
+    pub fn plain_directories(
+        image: *const u8,
+        length: usize,
+        entered: *mut Entered,
+        count: *mut u32,
     ) -> Number;
 
     pub fn plain_start(buffer: *mut u8, length: usize, level: u32) -> Number;

@@ -2,8 +2,9 @@
 
 use crate::plain;
 use bindings::{
-    Answer, AsptStructure, AsptTable, Directory, Entry, Firmware, Guid, GuidMatch, GuidTable,
-    ImageMatch, Interrupt, Match, NewEntry, Part, Place, Post, Refusal, Register,
+    Answer, AsptStructure, AsptTable, Directory, Entered, Entry, EntryRow, Firmware, Guid,
+    GuidMatch, GuidTable, ImageMatch, Interrupt, Match, NewEntry, Part, Place, Post, Refusal,
+    Register,
 };
 
 /// A program that reads and writes by document 01.
@@ -13,6 +14,8 @@ pub trait Program {
     /// The form in which the program itself is given an ASPT, and gives one.
     type Table: for<'a> From<&'a AsptTable>;
     type Mailbox: MailboxCalls;
+    /// What the program puts entries and directories into. It is lent again for each, and cleared once.
+    type Room: Default;
 
     fn checksum(bytes: &[u8]) -> u64;
     fn directory(image: &[u8], level: u32) -> Answer<Directory>;
@@ -31,22 +34,38 @@ pub trait Program {
     fn guid_start(buffer: &mut [u8]) -> Answer<()>;
     fn guid_extend(buffer: &mut [u8], guid: &Guid, data: &[u8]) -> Answer<u64>;
 
-    /// Hands over every entry of a level, and where its bytes lie. A program that has a form for a checked directory checks it
-    /// once; one that has not, at each call.
-    fn list(image: &[u8], level: u32, each: impl FnMut(Entry, Answer<Part>)) -> Answer<Directory> {
-        list_by_calls::<Self>(image, level, each)
-    }
+    /// Hands over every entry of the directory at a place, which is checked once.
+    fn view_entries(
+        image: &[u8],
+        place: usize,
+        room: &mut Self::Room,
+        each: impl FnMut(EntryRow),
+    ) -> Answer<Directory>;
+    /// Hands over every directory of an image.
+    fn directories(image: &[u8], room: &mut Self::Room, each: impl FnMut(Entered)) -> Answer<()>;
+    /// Hands over every directory of an image, and behind each all of its entries. A program that keeps a checked directory does
+    /// not check it again for them.
+    fn list(image: &[u8], room: &mut Self::Room, each: impl FnMut(Listed)) -> Answer<()>;
 }
 
-/// The same by the calls alone, in any program: each of them checks the directory again.
-pub fn list_by_calls<P: Program + ?Sized>(
+/// What a list of an image hands over.
+#[derive(Debug, PartialEq, Eq)]
+pub enum Listed {
+    Directory(Entered),
+    Entry(EntryRow),
+}
+
+/// Hands over every entry of a level by the calls on single entries, in any program: each of them checks the directory again.
+pub fn list_by_entry<P: Program + ?Sized>(
     image: &[u8],
     level: u32,
-    mut each: impl FnMut(Entry, Answer<Part>),
+    mut each: impl FnMut(EntryRow),
 ) -> Answer<Directory> {
     let directory = P::directory(image, level)?;
     for index in 0..directory.total as usize {
-        each(P::entry(image, level, index)?, P::part(image, level, index));
+        let entry = P::entry(image, level, index)?;
+        let part = P::part(image, level, index);
+        each(EntryRow { entry, part });
     }
     Ok(directory)
 }
@@ -73,6 +92,7 @@ impl Program for Library {
     const NAME: &'static str = "library";
     type Table = Words;
     type Mailbox = bindings::Mailbox;
+    type Room = bindings::Words;
 
     fn checksum(bytes: &[u8]) -> u64 {
         bindings::checksum(bytes).expect("any bytes have a checksum")
@@ -132,6 +152,32 @@ impl Program for Library {
 
     fn guid_extend(buffer: &mut [u8], guid: &Guid, data: &[u8]) -> Answer<u64> {
         bindings::guid_extend(buffer, guid, data)
+    }
+
+    fn view_entries(
+        image: &[u8],
+        place: usize,
+        room: &mut bindings::Words,
+        each: impl FnMut(EntryRow),
+    ) -> Answer<Directory> {
+        let entries = bindings::view_entries(image, place, room)?;
+        entries.rows().for_each(each);
+        Ok(entries.directory)
+    }
+
+    fn directories(image: &[u8], _: &mut bindings::Words, each: impl FnMut(Entered)) -> Answer<()> {
+        bindings::directories(image)?.into_iter().for_each(each);
+        Ok(())
+    }
+
+    fn list(image: &[u8], room: &mut bindings::Words, mut each: impl FnMut(Listed)) -> Answer<()> {
+        for entered in bindings::directories(image)? {
+            each(Listed::Directory(entered));
+            let place = entered.directory.place as usize;
+            let entries = bindings::view_entries(image, place, room)?;
+            entries.rows().for_each(|row| each(Listed::Entry(row)));
+        }
+        Ok(())
     }
 }
 
@@ -215,10 +261,26 @@ fn part_of(part: second::flash::Part) -> Part {
     }
 }
 
+fn row_of(told: second::flash::EntryAndBytes) -> EntryRow {
+    EntryRow {
+        entry: entry_of(told.entry),
+        part: told.bytes.map(part_of).map_err(refusal),
+    }
+}
+
+fn entered_of(reached: &second::flash::Reached) -> Entered {
+    Entered {
+        directory: directory_of(&reached.directory),
+        lead: reached.lead,
+    }
+}
+
 impl Program for Second {
     const NAME: &'static str = "second program";
     type Table = SecondTable;
     type Mailbox = second::mailbox::Mailbox;
+    /// It makes a list of its own for each.
+    type Room = ();
 
     fn checksum(bytes: &[u8]) -> u64 {
         u64::from(second::flash::checksum(bytes))
@@ -334,19 +396,32 @@ impl Program for Second {
             .map_err(refusal)
     }
 
-    fn list(
+    fn view_entries(
         image: &[u8],
-        level: u32,
-        mut each: impl FnMut(Entry, Answer<Part>),
+        place: usize,
+        _: &mut (),
+        each: impl FnMut(EntryRow),
     ) -> Answer<Directory> {
-        let directory = second::flash::directory(image, level).map_err(refusal)?;
-        for index in 0..u64::from(directory.total) {
-            each(
-                entry_of(directory.entry(index).map_err(refusal)?),
-                directory.bytes(index).map(part_of).map_err(refusal),
-            );
-        }
+        let all = second::flash::all_entries(image, place as u64);
+        let (directory, entries) = all.map_err(refusal)?;
+        entries.into_iter().map(row_of).for_each(each);
         Ok(directory_of(&directory))
+    }
+
+    fn directories(image: &[u8], _: &mut (), each: impl FnMut(Entered)) -> Answer<()> {
+        let all = second::flash::all_directories(image).map_err(refusal)?;
+        all.iter().map(entered_of).for_each(each);
+        Ok(())
+    }
+
+    fn list(image: &[u8], _: &mut (), mut each: impl FnMut(Listed)) -> Answer<()> {
+        for reached in second::flash::all_directories(image).map_err(refusal)? {
+            each(Listed::Directory(entered_of(&reached)));
+            let entries = reached.directory.all_entries().map_err(refusal)?;
+            let rows = entries.into_iter().map(row_of);
+            rows.for_each(|row| each(Listed::Entry(row)));
+        }
+        Ok(())
     }
 }
 
@@ -507,6 +582,7 @@ impl Program for Plain {
     const NAME: &'static str = "plain C";
     type Table = plain::Table;
     type Mailbox = plain::Mailbox;
+    type Room = PlainRoom;
 
     fn checksum(bytes: &[u8]) -> u64 {
         u64::from(unsafe { plain::plain_checksum(bytes.as_ptr(), bytes.len()) })
@@ -646,25 +722,88 @@ impl Program for Plain {
         given(number, u64::from(total))
     }
 
-    fn list(
+    fn view_entries(
         image: &[u8],
-        level: u32,
-        mut each: impl FnMut(Entry, Answer<Part>),
+        place: usize,
+        room: &mut PlainRoom,
+        each: impl FnMut(EntryRow),
     ) -> Answer<Directory> {
         let mut directory = plain::Directory::default();
-        let (start, length) = (image.as_ptr(), image.len());
-        let number = unsafe { plain::plain_directory(start, length, level, &mut directory) };
+        let number = unsafe {
+            plain::plain_view_entries(
+                image.as_ptr(),
+                image.len(),
+                place as u64,
+                room.rows.as_mut_ptr(),
+                &mut directory,
+            )
+        };
         given(number, ())?;
-        for index in 0..u64::from(directory.total) {
-            let mut entry = plain::Entry::default();
-            let mut part = plain::Part::default();
-            let number = unsafe { plain::plain_entry_of(start, &directory, index, &mut entry) };
-            given(number, ())?;
-            let number =
-                unsafe { plain::plain_part_of(start, length, &directory, index, &mut part) };
-            each(plain_entry_of(&entry), given(number, plain_part_of(&part)));
-        }
+        room.rows_of(&directory).for_each(each);
         Ok(plain_directory_of(&directory))
+    }
+
+    fn directories(image: &[u8], room: &mut PlainRoom, each: impl FnMut(Entered)) -> Answer<()> {
+        let count = room.enter(image)?;
+        let entered = &room.entered[..count];
+        entered.iter().map(plain_entered_of).for_each(each);
+        Ok(())
+    }
+
+    fn list(image: &[u8], room: &mut PlainRoom, mut each: impl FnMut(Listed)) -> Answer<()> {
+        let count = room.enter(image)?;
+        for i in 0..count {
+            let entered = room.entered[i];
+            each(Listed::Directory(plain_entered_of(&entered)));
+            let directory = &entered.directory;
+            let rows = room.rows.as_mut_ptr();
+            unsafe { plain::plain_entries_of(image.as_ptr(), image.len(), directory, rows) };
+            let rows = room.rows_of(directory);
+            rows.for_each(|row| each(Listed::Entry(row)));
+        }
+        Ok(())
+    }
+}
+
+/// Rows for the largest directory, and room for the directories of any image.
+pub struct PlainRoom {
+    rows: Vec<plain::Row>,
+    entered: Vec<plain::Entered>,
+}
+
+impl Default for PlainRoom {
+    fn default() -> PlainRoom {
+        PlainRoom {
+            rows: vec![plain::Row::default(); plain::MOST_ENTRIES],
+            entered: vec![plain::Entered::default(); plain::MOST_DIRECTORIES],
+        }
+    }
+}
+
+impl PlainRoom {
+    /// Puts all directories of an image into the room, and tells how many they are.
+    fn enter(&mut self, image: &[u8]) -> Answer<usize> {
+        let mut count = 0;
+        let entered = self.entered.as_mut_ptr();
+        let number =
+            unsafe { plain::plain_directories(image.as_ptr(), image.len(), entered, &mut count) };
+        given(number, count as usize)
+    }
+
+    /// The rows that were written for a directory.
+    fn rows_of(&self, directory: &plain::Directory) -> impl Iterator<Item = EntryRow> + '_ {
+        let rows = &self.rows[..directory.total as usize];
+        rows.iter().map(|row| EntryRow {
+            entry: plain_entry_of(&row.entry),
+            part: given(row.answer, plain_part_of(&row.part)),
+        })
+    }
+}
+
+fn plain_entered_of(entered: &plain::Entered) -> Entered {
+    Entered {
+        directory: plain_directory_of(&entered.directory),
+        lead: entered.lead,
     }
 }
 

@@ -1,8 +1,10 @@
 //! What is measured: for each row the same work, done by the library, the second program and the plain reading in C.
 
-use crate::programs::{list_by_calls, Library, MailboxCalls, Plain, Program, Second};
+use crate::programs::{list_by_entry, Library, Listed, MailboxCalls, Plain, Program, Second};
 use crate::samples;
-use bindings::{Answer, AsptTable, Directory, Entry, GuidMatch, ImageMatch, Match, Part};
+use bindings::{
+    Answer, AsptTable, Directory, Entered, Entry, EntryRow, GuidMatch, ImageMatch, Match, Part,
+};
 use std::rc::Rc;
 
 /// The work of a function with a program as its parameter, for the three of them.
@@ -101,20 +103,32 @@ pub const ROWS: &[Row] = &[
         },
     },
     Row {
-        name: "register",
-        what: "register run, the same calls in each program",
-        counted: "images of 16 MiB",
-        n: 64,
-        growth: &[1, 8, 64],
-        short: 1,
+        name: "all-entries",
+        what: "all entries of a directory",
+        counted: "entries",
+        n: 512,
+        growth: POWERS,
+        short: 64,
         work: |n| {
-            let given = boards();
-            three!(register_by_calls, &given, n)
+            let given = Rc::new(samples::one_level(n));
+            three!(all_entries, &given)
         },
     },
     Row {
-        name: "register-once",
-        what: "register run, a directory checked once where the program can",
+        name: "all-directories",
+        what: "all directories of an image, level two entered once",
+        counted: "entries in each level",
+        n: 512,
+        growth: POWERS,
+        short: 64,
+        work: |n| {
+            let given = Rc::new(samples::entered_once(n));
+            three!(all_directories, &given)
+        },
+    },
+    Row {
+        name: "register",
+        what: "register run: all directories, of each all entries, and lookups",
         counted: "images of 16 MiB",
         n: 64,
         growth: &[1, 8, 64],
@@ -122,6 +136,18 @@ pub const ROWS: &[Row] = &[
         work: |n| {
             let given = boards();
             three!(register_at_once, &given, n)
+        },
+    },
+    Row {
+        name: "register-by-entry",
+        what: "register run, entry by entry, each call checking its directory again",
+        counted: "images of 16 MiB",
+        n: 64,
+        growth: &[1, 8, 64],
+        short: 1,
+        work: |n| {
+            let given = boards();
+            three!(register_by_entry, &given, n)
         },
     },
     Row {
@@ -204,6 +230,31 @@ fn find_image<P: Program>(image: &Rc<Vec<u8>>) -> Work {
     Box::new(move || folded(&P::find_image(&image, samples::MISSING, 0)))
 }
 
+fn all_entries<P: Program + 'static>(image: &Rc<Vec<u8>>) -> Work {
+    let (image, mut room) = (Rc::clone(image), P::Room::default());
+    let place = samples::LEVEL_ONE;
+    // All is folded once, here: to fold it at each call would cost as much as the call. What is left is a look at each row.
+    let mut all = 0;
+    let told = P::view_entries(&image, place, &mut room, |row| row.fold_into(&mut all));
+    add(&mut all, folded(&told));
+    Box::new(move || {
+        let mut lengths = 0;
+        let told = P::view_entries(&image, place, &mut room, |row| {
+            lengths += row.part.map_or(1, |part| part.length);
+        });
+        all ^ lengths ^ folded(&told)
+    })
+}
+
+fn all_directories<P: Program + 'static>(image: &Rc<Vec<u8>>) -> Work {
+    let (image, mut room) = (Rc::clone(image), P::Room::default());
+    Box::new(move || {
+        let mut sum = 0;
+        let told = P::directories(&image, &mut room, |entered| entered.fold_into(&mut sum));
+        sum ^ folded(&told)
+    })
+}
+
 /// How many images a register run has in memory. It reads them in turn, since 64 of them would take 1 GiB.
 const BOARDS: usize = 4;
 
@@ -211,41 +262,43 @@ fn boards() -> Rc<Vec<Vec<u8>>> {
     Rc::new((0..BOARDS).map(samples::board).collect())
 }
 
-fn register_by_calls<P: Program>(boards: &Rc<Vec<Vec<u8>>>, images: usize) -> Work {
-    register::<P>(boards, images, |image, level, sum| {
-        list_by_calls::<P>(image, level, |entry, part| add_entry(sum, &entry, &part))
+/// What the register asks of each image: all directories and their entries, where the bytes of each lie, a lookup in either level, and
+/// one in the whole image.
+fn register_at_once<P: Program + 'static>(boards: &Rc<Vec<Vec<u8>>>, images: usize) -> Work {
+    let mut room = P::Room::default();
+    register::<P>(boards, images, move |image, sum| {
+        let listed = P::list(image, &mut room, |listed| match listed {
+            Listed::Directory(entered) => entered.fold_into(sum),
+            Listed::Entry(row) => row.fold_into(sum),
+        });
+        add(sum, folded(&listed));
     })
 }
 
-fn register_at_once<P: Program>(boards: &Rc<Vec<Vec<u8>>>, images: usize) -> Work {
-    register::<P>(boards, images, |image, level, sum| {
-        P::list(image, level, |entry, part| add_entry(sum, &entry, &part))
+/// The same by the calls on single entries.
+fn register_by_entry<P: Program>(boards: &Rc<Vec<Vec<u8>>>, images: usize) -> Work {
+    register::<P>(boards, images, |image, sum| {
+        for level in [1, 2] {
+            let listed = list_by_entry::<P>(image, level, |row| row.fold_into(sum));
+            add(sum, folded(&listed));
+        }
     })
 }
 
-fn add_entry(sum: &mut u64, entry: &Entry, part: &Answer<Part>) {
-    entry.fold_into(sum);
-    add(sum, folded(part));
-}
-
-/// What the register asks of each image: the directory of either level, all of its entries and where their bytes lie, a lookup
-/// in it, and one in the whole image.
+/// A list of each image, and lookups in it.
 fn register<P: Program>(
     boards: &Rc<Vec<Vec<u8>>>,
     images: usize,
-    list: fn(&[u8], u32, &mut u64) -> Answer<Directory>,
+    mut list: impl FnMut(&[u8], &mut u64) + 'static,
 ) -> Work {
     let boards = Rc::clone(boards);
     Box::new(move || {
         let mut sum = 0;
         for image in boards.iter().cycle().take(images) {
+            list(image, &mut sum);
             for level in [1, 2] {
-                let listed = list(image, level, &mut sum);
-                add(&mut sum, folded(&listed));
-                add(
-                    &mut sum,
-                    folded(&P::find(image, level, samples::MISSING, 0)),
-                );
+                let found = P::find(image, level, samples::MISSING, 0);
+                add(&mut sum, folded(&found));
             }
             add(&mut sum, folded(&P::find_image(image, samples::MISSING, 0)));
         }
@@ -376,6 +429,20 @@ fold!(Part: place, length);
 fold!(Match: index, tested);
 fold!(ImageMatch: place, level, index, tested);
 fold!(GuidMatch: place, length, tested);
+
+impl Fold for EntryRow {
+    fn fold_into(&self, sum: &mut u64) {
+        self.entry.fold_into(sum);
+        add(sum, folded(&self.part));
+    }
+}
+
+impl Fold for Entered {
+    fn fold_into(&self, sum: &mut u64) {
+        self.directory.fold_into(sum);
+        add(sum, self.lead);
+    }
+}
 
 impl Fold for AsptTable {
     fn fold_into(&self, sum: &mut u64) {

@@ -190,13 +190,14 @@ fn board_that_repeats(leads: fn(usize) -> bool) -> Vec<u8> {
 }
 
 const LAST_LEADS: fn(usize) -> bool = |i| i == 511;
+/// No more of them can lead: each has a subprogram of its own.
+const EVERY_SECOND_LEADS: fn(usize) -> bool = |i| i % 2 == 0;
 
 fn walks() -> Result<Vec<Depth>, String> {
     let boards: [(&'static str, fn(usize) -> bool); 3] = [
         ("a miss, the last of 512 entries leads to 512", LAST_LEADS),
         ("a miss, the first of 512 entries leads to 512", |i| i == 0),
-        // No more of them can lead: each has a subprogram of its own.
-        ("a miss, 256 of 512 entries lead to 512", |i| i % 2 == 0),
+        ("a miss, 256 of 512 entries lead to 512", EVERY_SECOND_LEADS),
     ];
     let mut depths = Vec::new();
     for (given, leads) in boards {
@@ -204,6 +205,18 @@ fn walks() -> Result<Vec<Depth>, String> {
         let miss = depth_of!(kpalumere_find_image(&[u8]: image, u8: samples::MISSING, u8: 0, &mut [u64]: words)
             answers Refusal::ABSENT, given);
         depths.push(miss);
+    }
+    for (given, leads) in [
+        ("an image, the last of 512 entries leads to 512", LAST_LEADS),
+        (
+            "an image, 256 of 512 entries lead to 512",
+            EVERY_SECOND_LEADS,
+        ),
+    ] {
+        let (image, mut words) = (board(leads), [0; 1 + 4 * 257]);
+        let all =
+            depth_of!(kpalumere_directories(&[u8]: image, &mut [u64]: words) answers 0, given);
+        depths.push(all);
     }
     Ok(depths)
 }
@@ -222,6 +235,7 @@ fn flash() -> Result<Vec<Depth>, String> {
     let mut buffer = samples::directory_bytes(b"$PL2", &entries);
     buffer.extend([0; 16]);
     let mut words = [0; 5];
+    let mut words_for_all = [0; 3 + 8 * 512];
     Ok(vec![
         depth_of!(kpalumere_efs(&[u8]: image, &mut [u64]: words) answers 0, "an image"),
         depth_of!(kpalumere_pointer(&[u8]: image, &mut [u64]: words) answers 0, "an image"),
@@ -234,6 +248,7 @@ fn flash() -> Result<Vec<Depth>, String> {
         depth_of!(kpalumere_view(&[u8]: image, u32: 2, &mut [u64]: words) answers 0, given),
         depth_of!(kpalumere_view_entry(&[u8]: image, usize: place, usize: 511, &mut [u64]: words) answers 0, viewed),
         depth_of!(kpalumere_view_part(&[u8]: image, usize: place, usize: 511, &mut [u64]: words) answers 0, viewed),
+        depth_of!(kpalumere_view_entries(&[u8]: image, usize: place, &mut [u64]: words_for_all) answers 0, viewed),
         depth_of!(kpalumere_checksum(&[u8]: summed, &mut [u64]: words) answers 0, viewed),
         depth_of!(kpalumere_version(&[u8]: binary, &mut [u64]: words) answers 0, "a header"),
         depth_of!(kpalumere_entry_version(&[u8]: image, u32: 2, u64: 511, &mut [u64]: words) answers Refusal::SIGNATURE, given),

@@ -5,10 +5,13 @@
 //! always the same, since a test also holds which numbers it meets, and a rare one may be missed by a seed from the clock.
 
 use agree::random::Random;
-use bench::programs::{list_by_calls, Library, MailboxCalls, Plain, Program, Second};
+use bench::programs::{list_by_entry, Library, Listed, MailboxCalls, Plain, Program, Second};
 use bench::samples;
 use bench::samples::LEAD;
-use bindings::{Answer, AsptStructure, AsptTable, Guid, NewEntry, Place, Post, Refusal, Register};
+use bindings::{
+    Answer, AsptStructure, AsptTable, Directory, Entered, EntryRow, Guid, NewEntry, Place, Post,
+    Refusal, Register,
+};
 use std::collections::BTreeSet;
 use std::fmt::Debug;
 
@@ -454,37 +457,91 @@ fn extending_by_a_repeated_entry_is_refused_between_14_and_3() {
     }
 }
 
+/// All entries of the directory at a place, with the directory.
+fn entries_of<P: Program>(image: &[u8], place: usize) -> Answer<(Directory, Vec<EntryRow>)> {
+    let mut rows = Vec::new();
+    let mut room = P::Room::default();
+    let told = P::view_entries(image, place, &mut room, |row| rows.push(row));
+    told.map(|directory| (directory, rows))
+}
+
+/// All directories of an image.
+fn directories_of<P: Program>(image: &[u8]) -> Answer<Vec<Entered>> {
+    let mut all = Vec::new();
+    let mut room = P::Room::default();
+    let told = P::directories(image, &mut room, |entered| all.push(entered));
+    told.map(|()| all)
+}
+
+/// The same with the entries of each behind it, as the program lists them by itself.
+fn list_of<P: Program>(image: &[u8]) -> Answer<Vec<Listed>> {
+    let mut all = Vec::new();
+    let mut room = P::Room::default();
+    let told = P::list(image, &mut room, |listed| all.push(listed));
+    told.map(|()| all)
+}
+
 #[test]
-fn a_directory_listed_at_once_is_what_the_calls_give() {
-    /// What is handed over for a level, and the directory or the refusal.
-    fn listed<P: Program>(image: &[u8], level: u32, at_once: bool) -> String {
-        let mut told = Vec::new();
-        let directory = if at_once {
-            P::list(image, level, |entry, part| told.push((entry, part)))
-        } else {
-            list_by_calls::<P>(image, level, |entry, part| told.push((entry, part)))
-        };
-        format!("{told:?} {directory:?}")
+fn all_entries_and_all_directories_are_told_the_same() {
+    let mut trial = Trial::begin();
+    let mut at_places = Trial::begin();
+    for _ in 0..1500 {
+        let image = random_image(&mut trial);
+        let directories = [
+            directories_of::<Library>(&image),
+            directories_of::<Second>(&image),
+            directories_of::<Plain>(&image),
+        ];
+        trial.same("all directories", directories);
+        let lists = [
+            list_of::<Library>(&image),
+            list_of::<Second>(&image),
+            list_of::<Plain>(&image),
+        ];
+        trial.same("all directories and their entries", lists);
+        let beyond = image.len() + 1;
+        let place = at_places.one_of(&[0, 0x100, 0x8001, 0x1_0000, image.len(), beyond]);
+        let entries = [
+            entries_of::<Library>(&image, place),
+            entries_of::<Second>(&image, place),
+            entries_of::<Plain>(&image, place),
+        ];
+        at_places.same("all entries", entries);
+    }
+    trial.met_exactly(&[0, 1, 2, 3, 4, 5, 7, 8, 14, 15, 16, 18]);
+    at_places.met_exactly(&[0, 1, 2, 3, 4, 5, 7, 14, 15, 18]);
+}
+
+#[test]
+fn what_is_told_at_once_is_what_the_single_calls_tell() {
+    /// Holds a program's ways to each other, and gives the number of entries that they tell.
+    fn held<P: Program>(image: &[u8]) -> usize {
+        let mut told = 0;
+        for level in [1, 2] {
+            let mut rows = Vec::new();
+            let by_entry = list_by_entry::<P>(image, level, |row| rows.push(row));
+            if let Ok(directory) = by_entry {
+                told += rows.len();
+                let at_once = entries_of::<P>(image, directory.place as usize);
+                assert_eq!(at_once, Ok((directory, rows)), "{} level {level}", P::NAME);
+            }
+        }
+        if let Ok(directories) = directories_of::<P>(image) {
+            let listed = directories.into_iter().flat_map(|entered| {
+                let entries = entries_of::<P>(image, entered.directory.place as usize);
+                let (_, rows) = entries.expect("a directory of the walk is good");
+                let rows = rows.into_iter().map(Listed::Entry);
+                std::iter::once(Listed::Directory(entered)).chain(rows)
+            });
+            assert_eq!(list_of::<P>(image), Ok(listed.collect()), "{}", P::NAME);
+        }
+        told
     }
     let mut trial = Trial::begin();
     let mut entries = 0;
     for _ in 0..200 {
         let image = random_image(&mut trial);
-        for level in [1, 2] {
-            let expected = listed::<Library>(&image, level, false);
-            entries += expected.matches("class").count();
-            let told = [
-                listed::<Library>(&image, level, true),
-                listed::<Second>(&image, level, true),
-                listed::<Plain>(&image, level, true),
-            ];
-            trial.equal("list", &told);
-            assert_eq!(
-                told[0], expected,
-                "at once and by calls, seed {}",
-                trial.seed
-            );
-        }
+        entries += held::<Library>(&image) + held::<Second>(&image) + held::<Plain>(&image);
     }
     assert!(entries > 0, "no image had an entry, seed {}", trial.seed);
 }

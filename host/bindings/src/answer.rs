@@ -120,8 +120,12 @@ pub(crate) fn lookup_of<T, const ROOM: usize>(
 }
 
 #[cfg(test)]
+pub(crate) use tests::numbers_of_library;
+
+#[cfg(test)]
 mod tests {
     use super::*;
+    use std::collections::BTreeMap;
 
     /// A call that writes its words and answers a number.
     fn call(number: u64) -> impl FnOnce(&mut [u64; 2]) -> u64 {
@@ -132,19 +136,25 @@ mod tests {
     }
 
     /// The constants that a file declares in lines of their own: each one's name and the number in its value.
-    fn constants_of(file: &str) -> Vec<(&str, String)> {
+    fn constants_of(file: &str) -> BTreeMap<&str, u64> {
         let declared = file.lines().filter_map(|line| {
             let (name, rest) = line.trim().strip_prefix("pub const ")?.split_once(':')?;
             let (_, value) = rest.split_once('=')?;
-            Some((name, value.chars().filter(char::is_ascii_digit).collect()))
+            let digits: String = value.chars().filter(char::is_ascii_digit).collect();
+            Some((name, digits.parse().ok()?))
         });
         declared.collect()
     }
 
+    /// The refusals that the library has, by name.
+    pub(crate) fn numbers_of_library() -> BTreeMap<&'static str, u64> {
+        constants_of(include_str!("../../../crates/reply/src/lib.rt"))
+    }
+
     #[test]
     fn refusals_have_the_names_and_numbers_of_the_library() {
-        let library = constants_of(include_str!("../../../crates/reply/src/lib.rt"));
-        assert_eq!(library.first(), Some(&("SHORT", "1".to_string())));
+        let library = numbers_of_library();
+        assert_eq!(library.get("SHORT"), Some(&1));
         assert_eq!(constants_of(include_str!("answer.rs")), library);
     }
 

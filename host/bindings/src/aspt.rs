@@ -12,7 +12,7 @@ exported! {
 }
 
 /// How many words a table takes, and from which on the structures stand.
-const ALL: usize = 22;
+pub(crate) const ALL: usize = 22;
 const STRUCTURES: usize = 7;
 
 /// What a table holds besides what is the same in every table.

@@ -51,17 +51,21 @@ macro_rules! exported {
 pub(crate) use exported;
 
 #[cfg(test)]
+pub(crate) use tests::calls_of_header;
+
+#[cfg(test)]
 mod tests {
-    use crate::{aspt, build, checksum, flash, guids, mailbox, version, view};
+    use crate::{all, aspt, build, checksum, flash, guids, mailbox, version, view};
     use std::collections::BTreeMap;
     use std::fs;
     use std::path::Path;
 
     /// Calls by their names, each with its parameters' types on the library's side of the boundary.
-    type Calls = BTreeMap<String, Vec<String>>;
+    pub(crate) type Calls = BTreeMap<String, Vec<String>>;
 
     fn calls_of_bindings() -> Calls {
-        let all = [
+        let every = [
+            all::EXPORTED,
             aspt::EXPORTED,
             build::EXPORTED,
             checksum::EXPORTED,
@@ -71,7 +75,7 @@ mod tests {
             version::EXPORTED,
             view::EXPORTED,
         ];
-        let calls = all.iter().copied().flatten();
+        let calls = every.iter().copied().flatten();
         calls
             .map(|(call, types)| {
                 let types = types.iter().map(|one| one.to_string());
@@ -96,7 +100,7 @@ mod tests {
     }
 
     /// What the header declares. Nothing else in it has the type of an answer at a line's start.
-    fn calls_of_header() -> Calls {
+    pub(crate) fn calls_of_header() -> Calls {
         let declarations = include_str!("../../kpalumere.h").split("\nuint64_t ");
         declarations
             .skip(1)

@@ -10,6 +10,7 @@
 
 #![deny(unsafe_code)]
 
+mod all;
 mod answer;
 mod aspt;
 mod build;
@@ -17,12 +18,15 @@ mod checksum;
 mod exported;
 mod flash;
 mod guids;
+#[cfg(test)]
+mod header;
 mod mailbox;
 #[cfg(test)]
 mod sample;
 mod version;
 mod view;
 
+pub use all::{directories, view_entries, Entered, Entries, EntryRow, Words};
 pub use answer::{Answer, Refusal};
 pub use aspt::{aspt_read, aspt_write, AsptStructure, AsptTable};
 pub use build::{extend, start, NewEntry};

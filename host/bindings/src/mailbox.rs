@@ -24,7 +24,7 @@ exported! {
 }
 
 /// How many words a mailbox takes.
-const ALL: usize = 88;
+pub(crate) const ALL: usize = 88;
 
 // Where its parts stand among them.
 const REGISTER: usize = 0;

@@ -45,7 +45,7 @@ fn entries() -> [Vec<Vec<u8>>; 2] {
 }
 
 /// An image whose EFS leads to a level one of these entries, and where a level two of these begins.
-fn board_of([one, two]: [Vec<Vec<u8>>; 2]) -> Vec<u8> {
+pub fn board_of([one, two]: [Vec<Vec<u8>>; 2]) -> Vec<u8> {
     let mut image = vec![0; LENGTH];
     let mut put = |place: u64, bytes: &[u8]| {
         let place = place as usize;

@@ -1,5 +1,5 @@
-//! Flash image: from the image to its directories, their entries and bytes, lookups, views, and
-//! the writing of directories.
+//! Flash image: from the image to its directories, their entries and bytes, one by one or all of them,
+//! lookups, views, and the writing of directories.
 
 use crate::little_endian::{put, u16_at, u32_at, u64_at};
 use crate::refusal::{require, Refusal};
@@ -178,6 +178,21 @@ pub struct Part {
     pub length: u64,
 }
 
+/// An entry, and where its bytes lie or why it has none.
+#[derive(Clone, Copy, Debug, PartialEq, Eq)]
+pub struct EntryAndBytes {
+    pub entry: Entry,
+    pub bytes: Result<Part, Refusal>,
+}
+
+/// A directory that the walk through an image comes to.
+#[derive(Clone, Copy, Debug, PartialEq, Eq)]
+pub struct Reached<'a> {
+    pub directory: Directory<'a>,
+    /// The index of the level-one entry that leads there; 0 for level one.
+    pub lead: u64,
+}
+
 /// What a lookup in one directory found.
 #[derive(Clone, Copy, Debug, PartialEq, Eq)]
 pub struct Found {
@@ -306,6 +321,18 @@ impl<'a> Directory<'a> {
         let length = u64::from(entry.size);
         require(lies_in(self.image, place, length), 7)?;
         Ok(Part { place, length })
+    }
+
+    /// Every entry, with its bytes.
+    pub fn all_entries(&self) -> Result<Vec<EntryAndBytes>, Refusal> {
+        let mut all = Vec::new();
+        for index in 0..u64::from(self.total) {
+            all.push(EntryAndBytes {
+                entry: self.entry(index)?,
+                bytes: self.bytes(index),
+            });
+        }
+        Ok(all)
     }
 
     /// The entry of that type and subprogram: there is one at most.
@@ -510,6 +537,32 @@ pub fn find_image(image: &[u8], kind: u8, subprogram: u8) -> Result<FoundInImage
         }
     }
     Err(Refusal::not_found(tested))
+}
+
+/// Every directory of the image, in the order of the walk: level one, and below it each level two that one of its entries leads
+/// to, as often as one does.
+pub fn all_directories(image: &[u8]) -> Result<Vec<Reached<'_>>, Refusal> {
+    check_image_length(image)?;
+    let one = level_one(image)?;
+    let mut all = vec![Reached {
+        directory: one,
+        lead: 0,
+    }];
+    let indexed = (0..).zip(one.entries());
+    for (lead, entry) in indexed.filter(|(_, entry)| entry.kind == LEADS_TO_LEVEL_TWO) {
+        let directory = one.follow(&entry)?;
+        all.push(Reached { directory, lead });
+    }
+    Ok(all)
+}
+
+/// Every entry of the directory at that place of the image, and the directory itself.
+pub fn all_entries(
+    image: &[u8],
+    place: u64,
+) -> Result<(Directory<'_>, Vec<EntryAndBytes>), Refusal> {
+    let directory = View { image, place }.directory()?;
+    Ok((directory, directory.all_entries()?))
 }
 
 /// A view: the lent image and the place where a directory begins. It says nothing of what the

@@ -1220,6 +1220,120 @@ fn a_view_may_lie_in_the_longest_image() {
     assert_eq!(view.bytes(0), Ok(expected));
 }
 
+// All directories, and all entries of one
+
+/// Places for more level-two directories.
+const THREE: usize = 0x2_3000;
+
+/// What is told of each directory: place, level, total, and the entry that led there.
+fn reached(image: &[u8]) -> Result<Vec<(u64, u32, u32, u64)>, Refusal> {
+    let tell = |all: Vec<Reached>| {
+        let told = all.into_iter().map(|one| {
+            let Directory {
+                place,
+                level,
+                total,
+                ..
+            } = one.directory;
+            (place, level.number(), total, one.lead)
+        });
+        told.collect()
+    };
+    all_directories(image).map(tell)
+}
+
+#[test]
+fn every_directory_is_told_as_often_as_an_entry_leads_there() {
+    let mut image = image_of(&[
+        raw(1, 0, 0, 0, 1),
+        raw(0x40, 0, 0, THREE as u64, 1),
+        raw(2, 0, 0, 0, 1),
+        raw(0x40, 9, 0, physical(L) + TWO as u64, 0),
+        raw(0x40, 1, 0, (THREE - ONE) as u64, 2),
+    ]);
+    put_directory(&mut image, TWO, b"$PL2", &different(2));
+    put_directory(&mut image, THREE, b"$PL2", &different(3));
+    let expected = vec![
+        (ONE as u64, 1, 5, 0),
+        (THREE as u64, 2, 3, 1),
+        (TWO as u64, 2, 2, 3),
+        (THREE as u64, 2, 3, 4),
+    ];
+    assert_eq!(reached(&image), Ok(expected));
+    // Without a lead there is level one alone, which may be empty.
+    let alone = image_of(&[]);
+    assert_eq!(reached(&alone), Ok(vec![(ONE as u64, 1, 0, 0)]));
+}
+
+#[test]
+fn the_first_fault_is_the_answer_for_all_directories() {
+    assert_eq!(number(reached(&[])), 15);
+    assert_eq!(number(reached(&[0])), 2);
+    let mut absent = image_of(&[]);
+    put_efs(&mut absent, EFS, 0, 0);
+    assert_eq!(number(reached(&absent)), 8);
+    let leads = |first: [u8; 16], second: [u8; 16]| {
+        let mut image = image_of(&[first, second]);
+        put_directory(&mut image, TWO, b"$PL2", &different(2));
+        image
+    };
+    let good = raw(0x40, 0, 0, TWO as u64, 1);
+    let beyond = raw(0x40, 1, 0, L as u64 + 1, 1);
+    let at_end = raw(0x40, 2, 0, L as u64, 1);
+    let mode_3 = raw(0x40, 3, 0, TWO as u64, 3);
+    let no_level_two = raw(0x40, 4, 0, ONE as u64, 1);
+    for (bad, expected) in [(beyond, 7), (at_end, 1), (mode_3, 16), (no_level_two, 2)] {
+        assert_eq!(number(reached(&leads(good, bad))), expected);
+        assert_eq!(number(reached(&leads(bad, good))), expected);
+    }
+    assert_eq!(number(reached(&leads(mode_3, beyond))), 16);
+    assert_eq!(number(reached(&leads(beyond, mode_3))), 7);
+    // A fault of level one comes before those that it leads to.
+    assert_eq!(number(reached(&leads(beyond, beyond))), 18);
+}
+
+#[test]
+fn all_entries_are_each_as_it_is_told_alone() {
+    let mut image = image_of_two(&[
+        raw(1, 2, 0x10, 0x100, 2),
+        raw(0x0B, 0, 0, 7, 0),
+        raw(3, 0, 1, L as u64, 1),
+        raw(4, 0, 0, 0, 3),
+    ]);
+    let (directory, all) = all_entries(&image, TWO as u64).expect("the directory is good");
+    assert_eq!((directory.place, directory.total), (TWO as u64, 4));
+    assert_eq!(directory.level, Level::Two);
+    let view = View {
+        image: &image,
+        place: TWO as u64,
+    };
+    let alone: Vec<EntryAndBytes> = (0..4)
+        .map(|index| EntryAndBytes {
+            entry: view.entry(index).expect("there are four"),
+            bytes: view.bytes(index),
+        })
+        .collect();
+    assert_eq!(all, alone);
+    let bytes = [
+        Ok(Part {
+            place: TWO as u64 + 0x100,
+            length: 0x10,
+        }),
+        Err(Refusal::of(17)),
+        Err(Refusal::of(7)),
+        Err(Refusal::of(16)),
+    ];
+    assert_eq!(all.iter().map(|one| one.bytes).collect::<Vec<_>>(), bytes);
+    // No entries are no refusal, and a directory that is not good has none to tell.
+    put_directory(&mut image, TWO, b"$PL2", &[]);
+    let (_, none) = all_entries(&image, TWO as u64).expect("it is good with no entry");
+    assert_eq!(none, []);
+    image[TWO + 4] ^= 1;
+    assert_eq!(number(all_entries(&image, TWO as u64)), 4);
+    assert_eq!(number(all_entries(&image, L as u64 + 1)), 7);
+    assert_eq!(number(all_entries(&[], 0)), 15);
+}
+
 // Writing
 
 #[test]
