@@ -40,11 +40,17 @@ choose_compilers() {
     export KPALUMERE_RUNNER=$emulator
 }
 
-# Cargo with the words given, for x86-64 and without the network.
+# Where Debian's packages put the sources of Rust libraries.
+rust_sources=/usr/share/cargo/registry
+
+# Cargo with the words given, for x86-64 and without the network: the tool's libraries come from the folder of Debian's sources.
 run_cargo() { # VERB WORDS...
-    local verb=$1
+    local verb=$1 sources=()
     shift
-    (cd "$root/host" && "$cargo" "$verb" --release --offline --target "$rust_target" "$@")
+    if [ -d "$rust_sources" ]; then
+        sources=(--config 'source.crates-io.replace-with="debian"' --config "source.debian.directory=\"$rust_sources\"")
+    fi
+    (cd "$root/host" && "$cargo" "$verb" --release --offline --target "$rust_target" "${sources[@]}" "$@")
 }
 
 # ---- what the machine must have
@@ -60,15 +66,24 @@ has_rust_library() {
     compgen -G "$folder/libstd-*.rlib" >/dev/null
 }
 
+# The tool's libraries, as Debian has their sources: a folder of `rust_sources` begins with the name, and the package has the rest.
+rust_libraries='clap-4:clap-4 clap_complete-4:clap-complete serde_json-1:serde-json csv-1:csv indicatif-0.17:indicatif strsim-0.10:strsim'
+
 # Prints the Debian packages that hold what the machine lacks. Only the tests need the formatter, the OVMF images, Python, which
-# reads the JSON and CSV that the tool writes, and what counts instructions: the emulator, and a compiler for its plugin.
+# reads the JSON and CSV that the tool writes and holds the JSON to its schema, and what counts instructions: the emulator, and a
+# compiler for its plugin.
 missing_packages() { # tool | tests
+    local library
     works "$rustc" || echo rustc
     works "$cargo" || echo cargo
+    for library in $rust_libraries; do
+        compgen -G "$rust_sources/${library%:*}*" >/dev/null || echo "librust-${library#*:}-dev"
+    done
     if [ "$1" = tests ]; then
         works "$rustfmt" || echo rustfmt
         compgen -G '/usr/share/OVMF/*.fd' >/dev/null || echo ovmf
         python3 -c 'import csv, json, pty' 2>/dev/null || echo python3
+        python3 -c 'import jsonschema' 2>/dev/null || echo python3-jsonschema
     fi
     if [ "$machine" = x86_64 ]; then
         can_link_c || printf '%s\n' gcc libc6-dev
@@ -211,7 +226,7 @@ build_tool() {
     sources=$(tool_sources)
     install_missing tool || return
     bring_library "$log" || return
-    say "building the tool: less than a minute"
+    say "building the tool: about a minute the first time, then less"
     if ! run_cargo build --package tool --target-dir "$tool_folder/cargo" >"$log" 2>&1; then
         cat "$log" >&2
         say "the tool cannot be built; what cargo said stands above and in $log"

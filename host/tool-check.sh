@@ -53,7 +53,7 @@ start ask <<<'nonsense'
 expect 'a bad line ends with 1' test "$(cat ended)" = 1
 
 start register
-expect 'the register of the sample is shown, and all of it is accepted' grep -qxF "the tool's sample board: accepted" wrote
+expect 'the register of the sample is shown, and its verdict is good' grep -qxF "the tool's sample board: good" wrote
 expect 'its boot loader is found, so the status is 0' test "$(cat ended)" = 0
 
 start register missing.rom

@@ -3,12 +3,16 @@
 //! Of the modules below each may import those that stand after it in this list, and none before it; tests/imports.rs holds them
 //! to it.
 //! - `commands`: a module for each command, and the table of them, which this file alone sees
+//! - `language`: the ask language: every call, its answer, and recordings of calls
+//! - `samples`: the boards and recordings that come with the tool
 //! - `shown`: answers as people and programs see them
 //! - `arguments`: the words of the command line and of scripts
 //! - `system`: files, streams, the terminal and the status
 
 mod arguments;
 mod commands;
+mod language;
+mod samples;
 mod shown;
 mod system;
 

@@ -15,7 +15,7 @@ use std::path::{Path, PathBuf};
 use std::process::{Command, Stdio};
 use std::time::Duration;
 
-/// A command that reads a file. One that is added to the tool gets a line in [`READERS`].
+/// A command that reads a file. One that is added to the tool gets a line in [`READERS`], or in [`PRINTERS`] where it reads none.
 struct Reader {
     /// The command, with FILE where the file is named.
     words: &'static [&'static str],
@@ -35,6 +35,12 @@ struct Reader {
 /// Stands for the file's name in a command.
 const FILE: &str = "FILE";
 
+/// The file that a command writes, over and over.
+const WRITTEN: &str = concat!(env!("CARGO_TARGET_TMPDIR"), "/written-in-bad-use");
+
+/// The folder that a command fills, over and over.
+const FILLED: &str = concat!(env!("CARGO_TARGET_TMPDIR"), "/filled-in-bad-use");
+
 /// A command on the bytes of an image or a table: no bytes are refused, as zeros are, and more than 64 MiB are not read.
 const fn on_bytes(
     words: &'static [&'static str],
@@ -46,8 +52,8 @@ const fn on_bytes(
         over_input,
         good,
         status: 0,
-        empty: 1,
-        largest: 1,
+        empty: 5,
+        largest: 5,
         larger: 3,
     }
 }
@@ -65,13 +71,22 @@ fn guid_table(folder: &Path) -> PathBuf {
     put(folder, "guids.fd", &image)
 }
 
+/// The description of a directory, put into a folder.
+fn description(folder: &Path) -> PathBuf {
+    put(
+        folder,
+        "level-1.txt",
+        b"level 1\nboot-loader 0 16 0x1000 image\n",
+    )
+}
+
 fn put(folder: &Path, name: &str, bytes: &[u8]) -> PathBuf {
     let path = folder.join(name);
     fs::write(&path, bytes).expect("a file can be written");
     path
 }
 
-const READERS: [Reader; 7] = [
+const READERS: [Reader; 10] = [
     // A script is answered line by line, so that it may be of any length: the zeros are one bad line.
     Reader {
         words: &["ask", FILE],
@@ -86,10 +101,20 @@ const READERS: [Reader; 7] = [
         words: &["mailbox", FILE],
         over_input: &["mailbox", "-"],
         good: |_| PathBuf::from("images/machine-6-two-programs.ask"),
-        status: 1,
+        status: 5,
         empty: 0,
         largest: 1,
         larger: 3,
+    },
+    // Recorded answers are gone through line by line, as a script is.
+    Reader {
+        words: &["check", FILE],
+        over_input: &["check", "-"],
+        good: |folder| put(folder, "seen.check", b"load => no\nturn => no\n"),
+        status: 0,
+        empty: 0,
+        largest: 1,
+        larger: 1,
     },
     on_bytes(&["register", FILE], &["register", "-"], board),
     on_bytes(
@@ -98,23 +123,41 @@ const READERS: [Reader; 7] = [
         board,
     ),
     on_bytes(&["entry", FILE, "1", "0"], &["entry", "-", "1", "0"], board),
+    on_bytes(
+        &["extract", FILE, "1", "0", WRITTEN, "--force"],
+        &["extract", "-", "1", "0", WRITTEN, "--force"],
+        board,
+    ),
+    // A description is read line by line: no bytes describe nothing, and zeros are no line of one.
+    Reader {
+        empty: 1,
+        largest: 1,
+        ..on_bytes(
+            &["build", FILE, WRITTEN, "--force"],
+            &["build", "-", WRITTEN, "--force"],
+            description,
+        )
+    },
     on_bytes(&["guids", FILE], &["guids", "-"], guid_table),
     Reader {
         // A script is no table, which is shown as a refusal.
         good: |_| PathBuf::from("lines.ask"),
-        status: 1,
+        status: 5,
         ..on_bytes(&["aspt", FILE], &["aspt", "-", "--json"], board)
     },
 ];
 
 /// Commands that read nothing and print something.
-const PRINTERS: [&[&str]; 6] = [
+const PRINTERS: [&[&str]; 9] = [
     &["--help"],
     &["--version"],
+    &["-V"],
+    &["completions", "bash"],
     &["help", "ask"],
     &["ask", "--help"],
     &["mailbox", "--help"],
     &["explain", "8"],
+    &["samples", FILLED, "--force"],
 ];
 
 /// How long a command may take. Emulated and on a busy machine the longest takes a few seconds.
@@ -228,7 +271,7 @@ fn ended(command: &mut Command) -> Run {
 fn held(command: &Command, run: &Run) {
     let said = String::from_utf8_lossy(&run.said);
     assert!(
-        matches!(run.status, Some(0..=3)),
+        matches!(run.status, Some(0..=3 | 5)),
         "{command:?} ends with {:?}, where none is that a signal ended it or it hung: {said}",
         run.status
     );
@@ -278,6 +321,206 @@ fn unread_pipe() -> Stdio {
     Stdio::from(pipe)
 }
 
+/// Runs a command that is started wrongly: the status is 2, nothing is answered, and the message has these words.
+fn is_told(command: &mut Command, words: &str) {
+    let run = ended(command);
+    let said = String::from_utf8_lossy(&run.said);
+    let answered = String::from_utf8_lossy(&run.answers);
+    assert_eq!(
+        (run.status, &*answered),
+        (Some(2), ""),
+        "{command:?}: {said}"
+    );
+    assert_eq!(said, format!("kpalumere: {words}\n"), "{command:?}");
+}
+
+/// The commands of the tool, by its own help.
+fn commands() -> Vec<String> {
+    let help = ended(&mut tool(texts(&["--help"])));
+    let help = String::from_utf8(help.answers).expect("help is text");
+    let list = help.split("\nCommands:\n").nth(1).expect("help has a list");
+    let list = list.lines().take_while(|line| !line.is_empty());
+    list.filter_map(|line| line.split_whitespace().next())
+        .map(String::from)
+        .collect()
+}
+
+#[test]
+fn every_command_stands_in_the_tables_of_bad_use() {
+    let readers = READERS.iter().map(Reader::name);
+    let all: Vec<&str> = readers
+        .chain(PRINTERS.iter().map(|words| words[0]))
+        .collect();
+    for name in commands() {
+        assert!(
+            all.contains(&name.as_str()),
+            "{name} stands in neither table"
+        );
+    }
+}
+
+#[test]
+fn after_two_hyphens_a_file_may_begin_with_one() {
+    let folder = Folder::new("hyphens");
+    for reader in &READERS {
+        let file = (reader.good)(&folder.0);
+        let bytes = fs::read(cases::folder().join(file)).expect("the file can be read");
+        put(&folder.0, "-x", &bytes);
+        let (options, others): (Vec<&str>, Vec<&str>) = reader.words[1..]
+            .iter()
+            .partition(|word| word.starts_with("--"));
+        let others = others
+            .into_iter()
+            .map(|word| if word == FILE { "-x" } else { word });
+        let words = [vec![reader.name()], options, vec!["--"], others.collect()].concat();
+        let mut command = started(built("kpalumere"), texts(&words), &folder.0);
+        assert_eq!(
+            ended(&mut command).status,
+            Some(reader.status),
+            "{command:?}"
+        );
+        // Without them it is taken for an option.
+        let name = reader.name();
+        is_told(
+            &mut reader.on(OsStr::new("-x")),
+            &format!(
+                "{name} has no option '-x'; a word that begins with a hyphen is given after `--`. \
+                 `kpalumere {name} --help` has its words."
+            ),
+        );
+    }
+}
+
+#[test]
+fn words_that_a_command_does_not_take() {
+    for reader in &READERS {
+        let name = reader.name();
+        let ends = format!("`kpalumere {name} --help` has its words.");
+        let with = |more: &str| {
+            let words = [reader.over_input, &[more]].concat();
+            tool(texts(&words))
+        };
+        is_told(
+            &mut with("--elephant"),
+            &format!(
+                "{name} has no option '--elephant'; a word that begins with a hyphen is given \
+                 after `--`. {ends}"
+            ),
+        );
+        is_told(
+            &mut with("--hepl"),
+            &format!("{name} has no option '--hepl'; did you mean '--help'? {ends}"),
+        );
+        // The register takes any number of images.
+        if name != "register" && reader.over_input.len() > 1 {
+            is_told(
+                &mut with("more"),
+                &format!("{name} does not take the word 'more'. {ends}"),
+            );
+        }
+    }
+}
+
+#[test]
+fn words_that_a_command_lacks() {
+    for (words, lacks) in [
+        (&["find"][..], "IMAGE, TYPE and SUB"),
+        (&["find", "a", "1"], "SUB"),
+        (&["entry", "a", "1"], "INDEX"),
+        (&["extract", "a", "1", "0"], "FILE"),
+        (&["extract", "--force"], "IMAGE"),
+        (&["extract", "a", "--force"], "LEVEL, INDEX and FILE"),
+        (&["extract", "a", "--at", "0"], "INDEX and FILE"),
+        (&["build", "a"], "FILE"),
+        (&["aspt"], "FILE"),
+        (&["guids", "--json"], "FILE"),
+        (&["check"], "FILE"),
+        (&["samples", "--force"], "FOLDER"),
+        (&["completions"], "SHELL"),
+    ] {
+        let name = words[0];
+        is_told(
+            &mut tool(texts(words)),
+            &format!("{name} lacks {lacks}. `kpalumere {name} --help` has its words."),
+        );
+    }
+}
+
+#[test]
+fn words_that_are_not_what_they_should_be() {
+    let number = "which is no number; write decimal digits, or 0x and hexadecimal digits";
+    for (words, wrong) in [
+        (
+            &["find", "a", "1", "256"][..],
+            String::from(
+                "cannot use its words: SUB is '256', which is too large; write at most 255",
+            ),
+        ),
+        (
+            &["find", "a", "1", "0", "--level", "two"],
+            format!("cannot use its words: --level is 'two', {number}"),
+        ),
+        (
+            &["entry", "a", "one", "0"],
+            format!("cannot use its words: LEVEL is 'one', {number}"),
+        ),
+        (
+            &["extract", "a", "1", "last", "b"],
+            format!("cannot use its words: INDEX is 'last', {number}"),
+        ),
+        (
+            &["explain", "19"],
+            String::from(
+                "cannot use its words: there is no refusal 19; the numbers are 1 to 18, and \
+                 `kpalumere explain` lists them all",
+            ),
+        ),
+        (
+            &["samples", "-"],
+            String::from(
+                "cannot use its words: FOLDER is '-', which is no folder; name one, as in ./parts",
+            ),
+        ),
+        (
+            &["build", "a", "b", "--force=yes"],
+            String::from("lets nothing follow --force"),
+        ),
+        (
+            &["extract", "a", "1", "0", "b", "--force", "--force"],
+            String::from("takes --force once"),
+        ),
+        (
+            &["register", "--json", "--csv"],
+            String::from("takes --json or --csv, and not both"),
+        ),
+    ] {
+        let name = words[0];
+        is_told(
+            &mut tool(texts(words)),
+            &format!("{name} {wrong}. `kpalumere {name} --help` has its words."),
+        );
+    }
+    is_told(
+        &mut tool(texts(&["completions", "bsh"])),
+        "completions takes bash, elvish, fish, powershell or zsh for SHELL, and not 'bsh'; \
+         did you mean 'bash'? `kpalumere completions --help` has its words.",
+    );
+}
+
+#[test]
+fn a_near_miss_of_a_command_is_answered_with_the_command() {
+    for name in commands() {
+        // The last letter is typed twice.
+        let missed = format!("{name}{}", &name[name.len() - 1..]);
+        let mut command = tool(texts(&[&missed]));
+        let run = ended(&mut command);
+        let said = String::from_utf8_lossy(&run.said);
+        assert_eq!(run.status, Some(2), "{missed}: {said}");
+        let meant = format!("there is no command '{missed}'; did you mean '{name}'? ");
+        assert!(said.contains(&meant), "{missed}: {said}");
+    }
+}
+
 #[test]
 fn a_command_that_hangs_is_found_out() {
     for output in [Stdio::piped(), Stdio::null()] {
@@ -306,6 +549,10 @@ fn files_that_cannot_be_read() {
             &socket,
             &pipe,
         ] {
+            // Of a folder the register takes the files below it, which its own tests have.
+            if reader.words[0] == "register" && cases::folder().join(file).is_dir() {
+                continue;
+            }
             let name = format!("{file:?}");
             fails(
                 &mut reader.on(file.as_os_str()),
@@ -453,7 +700,7 @@ fn scripts_that_are_cut_off() {
             let cut = &whole[..whole.len() * part / 24];
             let status = reader.run_on(cut).status;
             assert!(
-                matches!(status, Some(0 | 1)),
+                matches!(status, Some(0 | 1 | 5)),
                 "{part}/24 for {}",
                 reader.name()
             );
@@ -501,7 +748,13 @@ fn noise_as_a_script() {
         for script in [&noise, &letters] {
             for reader in &READERS {
                 let run = reader.run_on(script);
-                assert_eq!(run.status, Some(1), "{} with seed {seed}", reader.name());
+                // Lines that are no calls or entries are a plain no; what is no image or table is refused.
+                let status = match reader.name() {
+                    "ask" | "mailbox" | "check" | "build" => 1,
+                    _ => 5,
+                };
+                let told = format!("{} with seed {seed}", reader.name());
+                assert_eq!(run.status, Some(status), "{told}");
             }
         }
         let run = Program::tool().answers_to(&noise, &cases::folder());

@@ -31,10 +31,10 @@ fn refuses_the_draft(place: &Workplace, draft: &str, expected: &str) {
     place.put("bad.txt", draft);
     place
         .tool(&["build", "bad.txt", "new.dir"])
-        .expect(1, expected);
+        .expect(5, expected);
     place
         .tool(&["build", "--force", "bad.txt", "kept.dir"])
-        .expect(1, expected);
+        .expect(5, expected);
     assert_eq!(place.get("kept.dir"), b"kept");
     assert_eq!(place.names(), ["bad.txt", "kept.dir"]);
 }
@@ -98,7 +98,7 @@ fn a_directory_has_at_most_512_entries() {
             format!("level 2\n{more}").as_bytes(),
         )
         .expect(
-            1,
+            5,
             "standard input, line 514: refused 3: length or count outside its limits; \
              nothing is written\n",
         );
@@ -109,7 +109,7 @@ fn a_directory_has_at_most_512_entries() {
             format!("level 2\n{lines}0x13 7 0 0 image\n").as_bytes(),
         )
         .expect(
-            1,
+            5,
             "standard input, line 514: refused 18: entry repeats an earlier one; line 265 has type 0x13 and subprogram \
              0x07 already, so leave one of the two lines out, or give one another SUB; nothing is written\n",
         );
@@ -212,7 +212,7 @@ level 2
     let expected = [
         (3, "4 words where an entry has 5; write `TYPE SUB SIZE LOCATION MODE`, as in `boot-loader 0 0x100 0x1000 image`."),
         (4, "6 words where an entry has 5; write `TYPE SUB SIZE LOCATION MODE`, as in `boot-loader 0 0x100 0x1000 image`."),
-        (5, "TYPE is 'bootloader', which is no entry type; write a number, or one of these names: "),
+        (5, "there is no type 'bootloader'; did you mean 'boot-loader'?"),
         (6, "SUB is '256', which is too large; write at most 255."),
         (7, "SIZE is '0x100000000', which is too large; write at most 4294967295."),
         (8, "LOCATION is '0x10000000000000000', which is too large; write at most 18446744073709551615."),
@@ -225,6 +225,7 @@ level 2
         let begins = format!("kpalumere: \"wrong.txt\", line {number}: {reason}");
         assert!(line.starts_with(&begins), "{line}");
     }
+    assert!(!outcome.said.contains("?."), "{}", outcome.said);
     assert_eq!(said.last(), Some(&"kpalumere: nothing is written."));
     assert_eq!(place.get("kept.dir"), b"kept");
 }

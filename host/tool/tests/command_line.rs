@@ -7,8 +7,21 @@ use std::io::Read;
 use std::process::{Command, Stdio};
 
 /// The commands.
-const COMMANDS: [&str; 10] = [
-    "register", "find", "entry", "extract", "build", "aspt", "guids", "explain", "mailbox", "ask",
+const COMMANDS: [&str; 14] = [
+    "register",
+    "find",
+    "entry",
+    "extract",
+    "build",
+    "aspt",
+    "guids",
+    "explain",
+    "mailbox",
+    "ask",
+    "check",
+    "samples",
+    "completions",
+    "help",
 ];
 
 /// The tool with some words, and nothing on standard input.
@@ -31,7 +44,12 @@ fn help_and_version_are_printed() {
     for words in [&["--help"][..], &["-h"], &["help"]] {
         let run = tool(words);
         assert_eq!((run.status, text(&run.said)), (Some(0), String::new()));
-        assert!(text(&run.answers).contains("kpalumere ask [FILE]"));
+        for name in COMMANDS {
+            assert!(
+                text(&run.answers).contains(&format!("\n  {name} ")),
+                "{name}"
+            );
+        }
     }
     for words in [&["ask", "--help"][..], &["ask", "-h"], &["help", "ask"]] {
         let run = tool(words);
@@ -42,16 +60,93 @@ fn help_and_version_are_printed() {
         for words in [[name, "--help"], [name, "-h"], ["help", name]] {
             let run = tool(&words);
             assert_eq!((run.status, text(&run.said)), (Some(0), String::new()));
-            let begins = format!("kpalumere {name} ");
-            assert!(text(&run.answers).starts_with(&begins), "{words:?}");
-            assert!(text(&run.answers).contains("\nStatus:\n  0  "), "{words:?}");
+            let usage = format!("\n\nUsage: kpalumere {name} ");
+            assert!(text(&run.answers).contains(&usage), "{words:?}");
+            let statuses = text(&run.answers).contains("\nStatus:\n  0  ");
+            assert_eq!(statuses, name != "help", "{words:?}");
         }
     }
-    let run = tool(&["--version"]);
-    assert_eq!(run.status, Some(0));
-    let version = text(&run.answers);
-    let numbers = version.strip_prefix("kpalumere ").unwrap().trim_end();
-    assert_eq!(numbers.split('.').count(), 3, "{version}");
+    for words in ["--version", "-V"] {
+        let run = tool(&[words]);
+        assert_eq!(run.status, Some(0));
+        let version = text(&run.answers);
+        let numbers = version.strip_prefix("kpalumere ").unwrap().trim_end();
+        assert_eq!(numbers.split('.').count(), 3, "{version}");
+    }
+}
+
+#[test]
+fn bash_accepts_its_completions_and_they_have_every_command() {
+    for shell in ["bash", "elvish", "fish", "powershell", "zsh"] {
+        let script = tool(&["completions", shell]);
+        assert_eq!(
+            (script.status, text(&script.said)),
+            (Some(0), String::new())
+        );
+        for name in COMMANDS {
+            assert!(text(&script.answers).contains(name), "{shell}: {name}");
+        }
+    }
+    let script = tool(&["completions", "bash"]).answers;
+    let mut bash = Command::new("bash");
+    bash.arg("-n").stderr(Stdio::piped());
+    let checked = run(bash, &script);
+    assert_eq!(
+        (checked.status, text(&checked.said)),
+        (Some(0), String::new())
+    );
+    // The words that bash offers after the name of the tool are the commands.
+    let script = text(&script)
+        + "COMP_WORDS=(kpalumere '') COMP_CWORD=1\n\
+           _kpalumere kpalumere '' kpalumere\n\
+           printf '%s\\n' \"${COMPREPLY[@]}\"\n";
+    let offered = run(Command::new("bash"), script.as_bytes());
+    let offered = text(&offered.answers);
+    for name in COMMANDS {
+        assert!(
+            offered.lines().any(|word| word == name),
+            "{name}: {offered}"
+        );
+    }
+}
+
+#[test]
+fn columns_are_followed_where_the_output_is_no_terminal() {
+    for words in [
+        &["register"][..],
+        &["mailbox", "images/machine-6-two-programs.ask"],
+        &["guids", "/usr/share/OVMF/OVMF_CODE.fd"],
+        &["explain", "4"],
+    ] {
+        let shown = |columns: Option<&str>| {
+            let mut command = command(words);
+            command.env_remove("COLUMNS");
+            if let Some(columns) = columns {
+                command.env("COLUMNS", columns);
+            }
+            text(&run(command, b"").answers)
+        };
+        let widest = |shown: &str| shown.lines().map(|line| line.chars().count()).max();
+        assert!(
+            widest(&shown(None)) > Some(70),
+            "{words:?} is too narrow to tell"
+        );
+        let narrow = shown(Some("70"));
+        assert!(widest(&narrow) <= Some(70), "{narrow}");
+        // A width that is none is not followed.
+        assert_eq!(shown(Some("0")), shown(None));
+    }
+}
+
+#[test]
+fn standard_input_is_asked_by_a_hyphen_too() {
+    for words in [&["ask"][..], &["ask", "-"], &["ask", "--", "-"]] {
+        let run = run(command(words), b"buffer a 1\n");
+        assert_eq!(
+            (run.status, text(&run.answers)),
+            (Some(0), String::from("ok length=1\n"))
+        );
+    }
 }
 
 #[test]
@@ -61,7 +156,8 @@ fn wrong_words_end_with_2_and_say_what_to_do() {
         &["nonsense"],
         &["ask", "a", "b"],
         &["ask", "--fast"],
-        &["--help", "x"],
+        &["--fast", "ask"],
+        &["help", "nonsense"],
     ] {
         let run = tool(words);
         assert_eq!(

@@ -1,11 +1,18 @@
-//! The modules of the tool stand in four folders, one above the other. An import goes down this list and never up, and a command
+//! The modules of the tool stand in folders, one above the other. An import goes down this list and never up, and a command
 //! imports no other command.
 
 use std::fs;
 use std::path::{Path, PathBuf};
 
 /// The folders of src/, from the highest on. Above them all is main.rs, which may import any.
-const FOLDERS: [&str; 4] = ["commands", "shown", "arguments", "system"];
+const FOLDERS: [&str; 6] = [
+    "commands",
+    "language",
+    "samples",
+    "shown",
+    "arguments",
+    "system",
+];
 
 /// Something that a source file names which it may not, and the line that does.
 #[derive(Debug, PartialEq, Eq)]

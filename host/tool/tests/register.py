@@ -3,6 +3,8 @@
 register.py json FILE   what JSON says, as calls and answers: the image's number, the call, the answer, parted by tabs
 register.py csv FILE    the same of CSV
 register.py names FORM FILE   the name of each image in hexadecimal digits, a line each
+register.py verdicts FORM FILE   the name, the verdict, the number, where it was met and the message of each image, parted by tabs
+register.py directories FORM FILE   each directory: its level, the entry that leads there, its place, its total and its number
 register.py from-end FORM FILE   each image, a line each, with every place as its distance from the image's end
 register.py terminal COLUMNS COMMAND...   what the command writes on a terminal of so many columns; its status at the end
 """
@@ -14,16 +16,22 @@ import itertools
 import json
 import os
 import pty
+import re
 import struct
 import sys
 import termios
+
+# The number of the forms.
+FORMAT = 2
 
 
 def images_of_json(text):
     """The images: each its own fields, and lists of rows."""
     document = json.loads(text)
     assert list(document) == ["format", "images", "summary"], list(document)
-    assert document["format"] == 1, document["format"]
+    assert document["format"] == FORMAT, document["format"]
+    summary = document["summary"]
+    assert sum(summary.values()) == 2 * summary["images"], summary
     return document["images"]
 
 
@@ -32,18 +40,20 @@ def images_of_csv(text):
     images = []
     for row in csv.DictReader(io.StringIO(text, newline=""), strict=True):
         assert None not in row and None not in row.values(), row
-        assert row["format"] == "1", row
+        assert row["format"] == str(FORMAT), row
         fields = {name: value_of(name, cell) for name, cell in row.items()}
         if row["row"] == "image":
             fields["efs"] = {part: fields["efs_" + part] for part in ("place", "early", "late", "refused")}
             fields["pointer"] = {part: fields["pointer_" + part] for part in ("field", "value", "place", "refused")}
-            images.append(dict(fields, levels=[], asked=[]))
-        elif row["row"] == "level":
+            images.append(dict(fields, directories=[], asked=[]))
+        elif row["row"] == "directory":
             fields["repeat"] = {part: fields["repeat_" + part] for part in ("index", "earlier", "type", "subprogram")}
-            images[-1]["levels"].append(dict(fields, entries=[]))
+            images[-1]["directories"].append(dict(fields, entries=[]))
         elif row["row"] == "entry":
-            assert fields["level"] == images[-1]["levels"][-1]["level"], row
-            images[-1]["levels"][-1]["entries"].append(fields)
+            directory = images[-1]["directories"][-1]
+            around = [fields["level"], fields["lead"], fields["directory"]]
+            assert around == [directory["level"], directory["lead"], directory["place"]], row
+            directory["entries"].append(fields)
         else:
             assert row["row"] == "asked", row
             images[-1]["asked"].append(fields)
@@ -54,8 +64,13 @@ def images_of_csv(text):
 def value_of(name, cell):
     if cell == "":
         return None
-    texts = ("row", "file", "file_bytes", "verdict", "message", "name", "location", "version")
-    return cell if name in texts else int(cell)
+    texts = ("row", "file", "file_bytes", "verdict", "where", "message", "name", "location", "value", "version")
+    return unescaped(cell) if name in texts else int(cell)
+
+
+def unescaped(cell):
+    """A text without the escapes of docs/schema/README.md."""
+    return re.sub(r"\\(?:u([0-9a-f]{4})|(.))", lambda found: chr(int(found[1], 16)) if found[1] else found[2], cell)
 
 
 def answer(fields, template):
@@ -70,34 +85,50 @@ def added_lines(image):
     """The calls that the ask language has no line for, and their answers in the same form."""
     yield "efs", answer(image["efs"], "place={place:#x} early={early:#x} late={late:#x}")
     yield "pointer", answer(image["pointer"], "field={field:#x} value={value:#x} place={place:#x}")
-    for level in image["levels"]:
-        yield f"repeated {level['level']}", repeat_answer(level)
-        for entry in level["entries"]:
-            if entry["refused"] is None:
+    for directory in by_level(image):
+        yield f"repeated {directory['level']}", repeat_answer(directory)
+    for directory in image["directories"]:
+        for entry in directory["entries"]:
+            if entry["place"] is not None:
                 yield f"version {entry['place']} {entry['length']}", entry["version"] or "none"
 
 
-def repeat_answer(level):
-    """Which entries of a level repeat: both are named or neither, and only of a directory that is refused with 18."""
-    repeat = level["repeat"]
+def by_level(image):
+    """The directories that calls by their level answer on: level 1, and the level 2 of the lowest lead."""
+    return image["directories"][:2]
+
+
+def repeat_answer(directory):
+    """Which entries of a directory repeat: both are named or neither, and only of one that is refused with 18."""
+    repeat = directory["repeat"]
     if None not in repeat.values():
-        assert level["refused"] == 18, level
+        assert directory["refused"] == 18, directory
         return "ok index={index} earlier={earlier} type={type:#x} sub={subprogram:#x}".format(**repeat)
-    assert set(repeat.values()) == {None}, level
-    return "refused 8" if level["refused"] is None else f"refused {level['refused']}"
+    assert set(repeat.values()) == {None}, directory
+    return "refused 8" if directory["refused"] is None else f"refused {directory['refused']}"
+
+
+def part_answer(entry):
+    """Where the bytes of an entry lie; one that holds a value tells that in their place, and has no number."""
+    if entry["value"] is not None:
+        assert entry["value"] == entry["location"] and entry["refused"] is None, entry
+        return "refused 17"
+    return answer(entry, "place={place:#x} length={length}")
 
 
 def ask_lines(image):
     """The calls of the ask language that the register of an image answers, and the answers."""
-    for level in image["levels"]:
-        number = level["level"]
-        yield f"directory a {number}", answer(level, "place={place:#x} level={level} total={total}")
-        for entry in level["entries"]:
+    for directory in by_level(image):
+        call = f"directory a {directory['level']}"
+        yield call, answer(directory, "place={place:#x} level={level} total={total}")
+    for directory in image["directories"]:
+        place = directory["place"]
+        for entry in directory["entries"]:
             fields = "ok type={type:#x} sub={subprogram:#x} size={size:#x} location={location} mode={mode}"
-            yield f"entry a {number} {entry['index']}", fields.format(**entry)
-            yield f"bytes a {number} {entry['index']}", answer(entry, "place={place:#x} length={length}")
-        if level["refused"] is None:
-            yield f"entry a {number} {len(level['entries'])}", "refused 8"
+            yield f"view-entry a {place} {entry['index']}", fields.format(**entry)
+            yield f"view-bytes a {place} {entry['index']}", part_answer(entry)
+        if directory["refused"] is None:
+            yield f"view-entry a {place} {directory['total']}", "refused 8"
     for asked in image["asked"]:
         call = f"find-image a {asked['type']} {asked['subprogram']}"
         yield call, answer(asked, "place={directory:#x} level={level} index={index} tested={tested}")
@@ -153,6 +184,10 @@ def read(form, file):
         return READERS[form](opened.read())
 
 
+def print_fields(fields, names):
+    print("\t".join("-" if fields[name] is None else str(fields[name]) for name in names))
+
+
 def main(words):
     if words[0] in READERS:
         for number, image in enumerate(read(words[0], words[1])):
@@ -161,6 +196,13 @@ def main(words):
     elif words[0] == "names":
         for image in read(words[1], words[2]):
             print(name_of(image).hex())
+    elif words[0] == "verdicts":
+        for image in read(words[1], words[2]):
+            print_fields(image, ["file", "verdict", "refused", "where", "message"])
+    elif words[0] == "directories":
+        for image in read(words[1], words[2]):
+            for directory in image["directories"]:
+                print_fields(directory, ["level", "lead", "place", "total", "refused"])
     elif words[0] == "from-end":
         for image in read(words[1], words[2]):
             print(json.dumps(from_end(image)))

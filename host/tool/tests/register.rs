@@ -118,7 +118,7 @@ fn refused() -> Vec<(&'static str, u64, Vec<u8>)> {
 }
 
 /// Images that are accepted: without level two, with a type and subprogram that both levels have, with every field of an entry in
-/// use, with full directories, and with the longest image that there may be.
+/// use, with two directories of level two, with full directories, and with the longest image that there may be.
 fn accepted() -> Vec<(&'static str, Vec<u8>)> {
     let alone = Directory::of(1, vec![entry(0x01, 0, 0x10, 0x2_5000, 1)]);
     let empty = Directory::of(1, Vec::new());
@@ -139,6 +139,14 @@ fn accepted() -> Vec<(&'static str, Vec<u8>)> {
     let filling: Vec<Entry> = (0..511)
         .map(|k| entry(0x30 + (k / 256) as u8, k as u8, 0x20, 0x2_6000, 1))
         .collect();
+    // Two directories of level two, the first of them led to twice.
+    let leads = level_one(&[
+        entry(0x40, 1, 0, THIRD as u64, 1),
+        entry(0x40, 2, 0, WINDOW + LEVEL_TWO as u64, 0),
+    ]);
+    let third = Directory::of(2, vec![entry(0x12, 0, 0x20, 0x2_6000, 1)]);
+    let mut two_of_level_two = board(&leads, &level_two(&[]));
+    put(&mut two_of_level_two, THIRD, &third.bytes());
     let mut long = vec![0; 1 << 24];
     let full = board(&level_one(&filling[1..]), &level_two(&filling));
     put(&mut long, 0, &full);
@@ -148,6 +156,7 @@ fn accepted() -> Vec<(&'static str, Vec<u8>)> {
         ("shared.rom", board(&boot_loader_of_one, &level_two(&[]))),
         ("nothing.rom", board(&empty, &none)),
         ("wide.rom", wide),
+        ("two-of-level-two.rom", two_of_level_two),
         ("long.rom", long),
     ]
 }
@@ -251,7 +260,7 @@ fn the_sample_is_shown_as_recorded() {
         assert_eq!(text(&narrow.answers), recorded(&name), "{name}");
     }
     for form in ["json", "csv"] {
-        let run = tool(&room, &["register".to_string(), format!("--{form}")]);
+        let run = tool(&room, &["register", "--sample", &format!("--{form}")]);
         assert_eq!(run.status, Some(0));
         assert_eq!(text(&run.answers), recorded(&format!("sample.{form}")));
     }
@@ -266,12 +275,12 @@ fn refused_images_are_shown_with_what_could_be_read() {
         write(&room, name, bytes);
         words.push(name);
         let alone = tool(&room, &["register", name]);
-        assert_eq!(alone.status, Some(1), "{name}");
+        assert_eq!(alone.status, Some(5), "{name}");
         let begins = format!("{name:?}: refused {number}: ");
         assert!(text(&alone.answers).starts_with(&begins), "{name}");
     }
     let all = tool(&room, &words);
-    assert_eq!((all.status, text(&all.said)), (Some(1), String::new()));
+    assert_eq!((all.status, text(&all.said)), (Some(5), String::new()));
     assert_eq!(text(&all.answers), recorded("refused.report"));
 }
 
@@ -352,14 +361,18 @@ fn progress_is_told_on_a_terminal_and_wiped() {
     let room = room("progress");
     write(&room, "a.rom", &good());
     let image = room.join("a.rom").display().to_string();
-    let shown = on_terminal(200, None, &["register", "--quiet", &image, &image]);
-    assert!(
-        shown.contains(&format!("\r\x1b[K2 of 2: {image:?}\r\x1b[K")),
-        "{shown:?}"
-    );
-    assert!(shown.contains("2 images: 2 accepted"), "{shown:?}");
-    let one = on_terminal(200, None, &["register", "--quiet", &image]);
-    assert!(!one.contains("1 of 1"), "{one:?}");
+    for option in ["--quiet", "--brief"] {
+        let shown = on_terminal(200, None, &["register", option, &image, &image]);
+        let told = format!("1 of 2 done, 1 left: {image:?}");
+        let (before, after) = shown
+            .split_once(&told)
+            .unwrap_or_else(|| panic!("{shown:?}"));
+        assert!(before.contains("0 of 2 done, 2 left: "), "{shown:?}");
+        assert!(after.contains("\r\x1b[2K"), "{shown:?}");
+        assert!(after.contains("2 images: 2 good"), "{shown:?}");
+        let one = on_terminal(200, None, &["register", option, &image]);
+        assert!(!one.contains("left: "), "{one:?}");
+    }
 }
 
 #[test]
@@ -373,12 +386,12 @@ fn an_image_that_repeats_an_entry_is_refused_in_every_form() {
     write(&room, name, &bytes);
     let shown = |form: &[&str]| {
         let run = tool(&room, &[&["register"], form, &["good.rom", name]].concat());
-        assert_eq!((run.status, text(&run.said)), (Some(1), String::new()));
+        assert_eq!((run.status, text(&run.said)), (Some(5), String::new()));
         text(&run.answers)
     };
     let head = "\"two-repeats.rom\": refused 18: entry repeats an earlier one (level 2)\n";
-    let summary = "2 images: 1 accepted, 1 refused (1 by 18), 0 not read; \
-                   0 accepted without a boot loader\n";
+    let summary = "2 images: 1 good, 0 no boot loader, 0 boot loader without bytes, \
+                   1 refused (1 by 18), 0 not read\n";
     for form in [&[][..], &["--quiet"]] {
         let shown = shown(form);
         assert!(shown.contains(head) && shown.ends_with(summary), "{shown}");
@@ -398,8 +411,8 @@ fn an_image_that_repeats_an_entry_is_refused_in_every_form() {
     for form in [&["--json"][..], &["--json", "--quiet"]] {
         let shown = shown(form);
         for expected in [
-            "\"file\": \"two-repeats.rom\",\n   \"file_bytes\": null,\n   \"verdict\": \"refused\",\n   \"refused\": 18,\n",
-            "{\"level\": 2, \"place\": null, \"total\": null, \"refused\": 18, \
+            "\"file\": \"two-repeats.rom\",\n   \"file_bytes\": null,\n   \"verdict\": \"refused\",\n   \"refused\": 18,\n   \"where\": \"level 2\",\n",
+            "{\"level\": 2, \"lead\": 1, \"place\": null, \"total\": null, \"refused\": 18, \
              \"repeat\": {\"index\": 2, \"earlier\": 0, \"type\": 1, \"subprogram\": 0}, \"entries\": []}",
         ] {
             assert!(shown.contains(expected), "{expected}\n{shown}");
@@ -408,9 +421,9 @@ fn an_image_that_repeats_an_entry_is_refused_in_every_form() {
     for form in [&["--csv"][..], &["--csv", "--quiet"]] {
         let shown = shown(form);
         for expected in [
-            "1,image,two-repeats.rom,,refused,18,,524288,",
-            "1,level,two-repeats.rom,,,18,,,,,,,,,,,2,,,,,,,,,,,,,2,0,1,0",
-            "1,asked,two-repeats.rom,,,18,",
+            "2,image,two-repeats.rom,,refused,18,level 2,,524288,",
+            "2,directory,two-repeats.rom,,,18,,,,,,,,,,,,2,1,,,,,,,,,,,,,,2,0,1,0",
+            "2,asked,two-repeats.rom,,,18,",
         ] {
             assert!(
                 shown.lines().any(|line| line.starts_with(expected)),
@@ -513,7 +526,7 @@ fn boards_of_4_8_and_16_mib_have_the_same_register_but_for_places() {
         registers_from_end(&room, &image)
     });
     let [shown, json, csv] = &all[0];
-    assert!(shown.starts_with("\"board.rom\": accepted\n"), "{shown}");
+    assert!(shown.starts_with("\"board.rom\": good\n"), "{shown}");
     assert!(shown.contains("version 00.08.01.74 (3 entries tested)"));
     for (length, registers) in SIZES.iter().zip(&all) {
         let [other_shown, other_json, other_csv] = registers;
@@ -535,13 +548,13 @@ fn a_board_that_is_cut_off_or_padded_is_refused_and_one_padded_before_its_start_
     let dump = board_below_4_gib(8 << 20, BOOT_LOADER);
     let padding = vec![0xFF; dump.len()];
     for (name, image, verdict) in [
-        ("whole.rom", dump.clone(), "accepted"),
+        ("whole.rom", dump.clone(), "good\n"),
         (
             "cut-behind.rom",
             dump[..dump.len() - 1].to_vec(),
             "refused 2",
         ),
-        ("cut-before.rom", dump[1..].to_vec(), "accepted"),
+        ("cut-before.rom", dump[1..].to_vec(), "good\n"),
         (
             "padded-behind.rom",
             [&dump[..], &padding].concat(),
@@ -550,7 +563,7 @@ fn a_board_that_is_cut_off_or_padded_is_refused_and_one_padded_before_its_start_
         (
             "padded-before.rom",
             [&padding[..], &dump].concat(),
-            "accepted",
+            "good\n",
         ),
         (
             "too-long.rom",
@@ -578,7 +591,7 @@ fn board_with_efs_at_its_start(length: usize, is_physical: bool) -> Vec<u8> {
 }
 
 #[test]
-fn a_dump_of_another_length_may_be_accepted_and_its_addresses_are_wrong() {
+fn a_dump_of_another_length_may_be_good_and_its_addresses_are_wrong() {
     let room = room("other-lengths");
     let (eight, sixteen) = (8 << 20, 16 << 20);
     let padded = |is_physical| {
@@ -593,11 +606,15 @@ fn a_dump_of_another_length_may_be_accepted_and_its_addresses_are_wrong() {
     };
     let whole = board_with_efs_at_its_start(eight, false);
     for (image, verdict, entry) in [
-        (whole, "accepted\n", Some("0x30000 to 0x300ff ")),
+        (whole, "good\n", Some("0x30000 to 0x300ff ")),
         (padded(true), "refused 2: ", None),
-        (padded(false), "accepted\n", Some("0x830000 to 0x8300ff ")),
+        (padded(false), "good\n", Some("0x830000 to 0x8300ff ")),
         (cut_off(true), "refused 7: ", None),
-        (cut_off(false), "accepted\n", Some("refused 7: ")),
+        (
+            cut_off(false),
+            "boot loader without bytes, refused 7: ",
+            Some("refused 7: "),
+        ),
     ] {
         write(&room, "dump.rom", &image);
         let shown = text(&tool(&room, &["register", "dump.rom"]).answers);
@@ -623,31 +640,28 @@ fn many_images_have_a_summary_and_the_status_of_the_worst() {
     for (name, _, bytes) in refused() {
         write(&room, name, &bytes);
     }
-    for (words, status, refused, summary) in [
+    for (words, status, summary) in [
         (
             &["good.rom", "one-level.rom"][..],
             0,
-            0,
-            "2 images: 2 accepted, 0 refused, 0 not read; 0 accepted without a boot loader",
+            "2 images: 2 good, 0 no boot loader, 0 boot loader without bytes, 0 refused, 0 not read",
         ),
         (
             &["good.rom", "nothing.rom", "wide.rom"],
             1,
-            0,
-            "3 images: 3 accepted, 0 refused, 0 not read; 1 accepted without a boot loader",
+            "3 images: 2 good, 1 no boot loader, 0 boot loader without bytes, 0 refused, 0 not read",
         ),
         (
-            &["good.rom", "empty.rom", "one-total.rom", "one-checksum.rom", "two-checksum.rom"],
-            1,
-            4,
-            "5 images: 1 accepted, 4 refused (1 by 3, 2 by 4, 1 by 15), 0 not read; \
-             0 accepted without a boot loader",
+            &["good.rom", "nothing.rom", "one-total.rom", "one-checksum.rom", "two-checksum.rom"],
+            5,
+            "5 images: 1 good, 1 no boot loader, 0 boot loader without bytes, \
+             3 refused (1 by 3, 2 by 4), 0 not read",
         ),
         (
             &["missing.rom", "empty.rom", "good.rom"],
             3,
-            1,
-            "3 images: 1 accepted, 1 refused (1 by 15), 1 not read; 0 accepted without a boot loader",
+            "3 images: 1 good, 0 no boot loader, 0 boot loader without bytes, \
+             1 refused (1 by 15), 1 not read",
         ),
     ] {
         let all = tool(&room, &[&["register"], words].concat());
@@ -662,9 +676,12 @@ fn many_images_have_a_summary_and_the_status_of_the_worst() {
         assert_eq!(quiet.status, Some(status), "{words:?}");
         let shown = text(&quiet.answers);
         assert_eq!(shown.lines().last(), Some(summary));
-        assert!(!shown.contains(": accepted\n"), "{shown}");
-        let shown_refused = shown.lines().filter(|line| line.contains(".rom\": refused "));
-        assert_eq!(shown_refused.count(), refused, "{shown}");
+        let good = ["good.rom", "one-level.rom", "wide.rom"];
+        for name in words {
+            let head = format!("{name:?}: ");
+            let is_shown = shown.lines().any(|line| line.starts_with(&head));
+            assert_eq!(is_shown, !good.contains(name), "{shown}");
+        }
     }
 }
 
@@ -673,7 +690,10 @@ fn one_image_ends_with_its_own_status() {
     let room = room("one");
     for (name, bytes) in accepted() {
         write(&room, name, &bytes);
-        let status = if name == "nothing.rom" { 1 } else { 0 };
+        let (status, verdict) = match name {
+            "nothing.rom" => (1, "no boot loader"),
+            _ => (0, "good"),
+        };
         let run = tool(&room, &["register", name]);
         assert_eq!(
             (run.status, text(&run.said)),
@@ -681,7 +701,7 @@ fn one_image_ends_with_its_own_status() {
             "{name}"
         );
         assert!(
-            text(&run.answers).starts_with(&format!("{name:?}: accepted\n")),
+            text(&run.answers).starts_with(&format!("{name:?}: {verdict}\n")),
             "{name}"
         );
     }
@@ -714,6 +734,14 @@ fn wrong_words_end_with_2_and_say_what_to_do() {
     for words in [
         &["register", "--jsn"][..],
         &["register", "--json", "--csv"],
+        &["register", "--brief", "--json"],
+        &["register", "--brief", "--csv"],
+        &["register", "--json"],
+        &["register", "--quiet"],
+        &["register", "--brief"],
+        &["register", "-0", "a.rom"],
+        &["register", "--from"],
+        &["register", "--from", "-", "-"],
         &["register", "--json", "--json"],
         &["register", "--quiet=yes"],
         &["explain", "0"],
@@ -745,8 +773,9 @@ fn output_that_cannot_be_written_ends_with_3() {
     let room = room("full");
     for form in [
         &["register"][..],
-        &["register", "--json"],
-        &["register", "--csv"],
+        &["register", "--sample", "--brief"],
+        &["register", "--sample", "--json"],
+        &["register", "--sample", "--csv"],
         &["explain"],
     ] {
         let full = fs::OpenOptions::new()
@@ -822,7 +851,7 @@ fn json_and_csv_say_what_the_second_program_answers() {
         let register = tool(&room, &words);
         assert_eq!(
             (register.status, text(&register.said)),
-            (Some(1), String::new())
+            (Some(5), String::new())
         );
         let file = room.join(form);
         fs::write(&file, &register.answers).unwrap();
@@ -910,7 +939,7 @@ fn any_file_name_survives() {
     assert_eq!(
         shown
             .lines()
-            .filter(|line| line.ends_with(": accepted"))
+            .filter(|line| line.ends_with(": good"))
             .count(),
         names.len()
     );
@@ -918,7 +947,7 @@ fn any_file_name_survives() {
 }
 
 #[test]
-fn quiet_forms_leave_out_what_is_accepted() {
+fn quiet_forms_leave_out_what_is_good() {
     let room = room("quiet-forms");
     write(&room, "good.rom", &good());
     write(&room, "bad.rom", &changed(LEVEL_ONE + 16, &[0x77]));
@@ -944,39 +973,7 @@ fn quiet_forms_leave_out_what_is_accepted() {
     }
 }
 
-// ---- help
-
-#[test]
-fn every_command_has_its_help() {
-    let room = room("help");
-    let all = text(&tool(&room, &["--help"]).answers);
-    let commands: Vec<&str> = all
-        .lines()
-        .filter_map(|line| line.strip_prefix("  kpalumere "))
-        .filter_map(|words| words.split(' ').next())
-        .filter(|name| name.starts_with(|first: char| first.is_ascii_lowercase()))
-        .collect();
-    for expected in ["register", "explain", "mailbox", "ask"] {
-        assert!(commands.contains(&expected), "{commands:?}");
-    }
-    for name in commands {
-        let shown = [[name, "--help"], [name, "-h"], ["help", name]].map(|words| {
-            let run = tool(&room, &words);
-            assert_eq!(
-                (run.status, text(&run.said)),
-                (Some(0), String::new()),
-                "{words:?}"
-            );
-            text(&run.answers)
-        });
-        assert!(
-            shown[0].starts_with(&format!("kpalumere {name}")),
-            "{}",
-            shown[0]
-        );
-        assert!(shown[0] == shown[1] && shown[1] == shown[2], "{name}");
-    }
-}
+// ---- refusals
 
 #[test]
 fn every_refusal_is_explained() {

@@ -108,7 +108,7 @@ fn an_aspt_that_is_refused_is_told_with_number_and_words() {
     ] {
         place
             .tool_given(&["aspt", "-"], &table)
-            .expect(1, &format!("{told}\n"));
+            .expect(5, &format!("{told}\n"));
     }
 }
 
@@ -187,7 +187,7 @@ fn a_guid_table_that_is_refused_is_told_with_number_and_words() {
     ] {
         place
             .tool_given(&["guids", "-"], &image)
-            .expect(1, &format!("{told}\n"));
+            .expect(5, &format!("{told}\n"));
     }
     assert_eq!(
         place
@@ -206,8 +206,8 @@ fn real_firmware_has_the_blocks_of_source_004() {
         let file = file.unwrap().path();
         let outcome = place.tool(&["guids", file.to_str().unwrap()]);
         // Images of variables have no table.
-        if outcome.status == Some(1) {
-            outcome.expect(1, "refused 2: signature not found\n");
+        if outcome.status == Some(5) {
+            outcome.expect(5, "refused 2: signature not found\n");
             continue;
         }
         let names = ["SEV-ES reset block", "SEV secret block", "SEV hashes table"];
@@ -262,7 +262,7 @@ fn programs_read_what_is_found() {
         &["find", "board.rom", "smu-firmware", "1", "--json"],
         0,
         "\
-format 1
+format 2
 file \"board.rom\"
 file_bytes null
 type 8
@@ -279,9 +279,11 @@ entry.subprogram 1
 entry.size 4096
 entry.mode 1
 entry.location \"0x2d000\"
+entry.value null
 entry.place 184320
 entry.length 4096
 entry.refused null
+entry.version null
 ",
     );
     expect_json(
@@ -289,7 +291,7 @@ entry.refused null
         &["find", "board.rom", "9", "1", "--json", "--level=1"],
         1,
         "\
-format 1
+format 2
 file \"board.rom\"
 file_bytes null
 type 9
@@ -304,20 +306,20 @@ entry null
     );
     place.put("bad.rom", Board::with(|board| board.one.wrong = 1));
     let outcome = place.tool(&["find", "bad.rom", "9", "1", "--json"]);
-    assert_eq!(outcome.status, Some(1));
+    assert_eq!(outcome.status, Some(5));
     let read = read_by_python(&outcome);
     assert!(read.contains("\ntested null\nrefused 4\n"), "{read}");
     let repeats = Board::with(|board| board.two.entries[3].class = 0x5A);
     place.put("repeats.rom", repeats);
     let outcome = place.tool(&["find", "repeats.rom", "9", "1", "--json"]);
-    assert_eq!(outcome.status, Some(1));
+    assert_eq!(outcome.status, Some(5));
     let read = read_by_python(&outcome);
     assert!(read.contains("\ntested null\nrefused 18\n"), "{read}");
     let outcome = place.tool(&["entry", "repeats.rom", "2", "0", "--json"]);
-    assert_eq!(outcome.status, Some(1));
+    assert_eq!(outcome.status, Some(5));
     let read = read_by_python(&outcome);
     assert!(
-        read.ends_with("level 2\ndirectory null\ntotal null\nrefused 18\nentry null\n"),
+        read.ends_with("level 2\nat null\ndirectory null\ntotal null\nrefused 18\nentry null\n"),
         "{read}"
     );
 }
@@ -331,12 +333,13 @@ fn programs_read_an_entry() {
     expect_json(
         &place,
         &["entry", name, "2", "2", "--json"],
-        1,
+        5,
         "\
-format 1
+format 2
 file \"a \\\"board\\\"\\\\\\n\\u00e9\"
 file_bytes null
 level 2
+at null
 directory 163840
 total 4
 refused null
@@ -347,16 +350,18 @@ entry.subprogram 0
 entry.size 257
 entry.mode 1
 entry.location \"0x7ff00\"
+entry.value null
 entry.place null
 entry.length null
 entry.refused 7
+entry.version null
 ",
     );
     let outcome = place.tool(&["entry", "--json", name, "1", "5"]);
-    assert_eq!(outcome.status, Some(1));
+    assert_eq!(outcome.status, Some(5));
     let read = read_by_python(&outcome);
     assert!(
-        read.ends_with("level 1\ndirectory null\ntotal null\nrefused 8\nentry null\n"),
+        read.ends_with("level 1\nat null\ndirectory null\ntotal null\nrefused 8\nentry null\n"),
         "{read}"
     );
 }
@@ -370,7 +375,7 @@ fn programs_read_the_tables() {
         &["aspt", "aspt.bin", "--json"],
         0,
         "\
-format 1
+format 2
 file \"aspt.bin\"
 file_bytes null
 refused null
@@ -416,7 +421,7 @@ structures.2.registers.0.offset 32
         &["guids", "guest.fd", "--json"],
         0,
         "\
-format 1
+format 2
 file \"guest.fd\"
 file_bytes null
 refused null
@@ -443,8 +448,8 @@ entries.1.length 0
         ),
         ("guids", "total null\nentries 0\n"),
     ] {
-        let expected = format!("format 1\nfile \"bad.bin\"\nfile_bytes null\nrefused 2\n{rest}");
-        expect_json(&place, &[command, "bad.bin", "--json"], 1, &expected);
+        let expected = format!("format 2\nfile \"bad.bin\"\nfile_bytes null\nrefused 2\n{rest}");
+        expect_json(&place, &[command, "bad.bin", "--json"], 5, &expected);
     }
 }
 

@@ -88,20 +88,41 @@ fn every_command_of_the_page_writes_what_the_page_shows() {
 
 #[test]
 fn the_page_names_every_command_of_the_tool() {
-    let place = Workplace::new("user-commands");
-    let help = place.tool(&["--help"]).wrote;
-    let mut seen = 0;
-    for line in help.lines() {
-        let mut words = line.split_whitespace();
-        match (words.next(), words.next()) {
-            (Some("kpalumere"), Some(name)) if !name.starts_with('-') => {
-                assert!(page().contains(&format!("kpalumere {name}")), "{name}");
-                seen += 1;
-            }
-            _ => (),
-        }
+    let help = Workplace::new("user-commands").tool(&["--help"]).wrote;
+    let names = list_of_help(&help, "Commands:").into_iter();
+    let names: Vec<&str> = names.map(|(name, _)| name).collect();
+    assert!(names.len() > 10, "{help}");
+    for name in names {
+        assert!(page().contains(&format!("kpalumere {name}")), "{name}");
     }
-    assert!(seen >= 9, "{help}");
+}
+
+#[test]
+fn the_page_has_the_statuses_that_the_tool_tells() {
+    let help = Workplace::new("user-statuses").tool(&["--help"]).wrote;
+    let statuses = list_of_help(&help, "Status:");
+    let numbers: Vec<&str> = statuses.iter().map(|(number, _)| *number).collect();
+    assert_eq!(numbers, ["0", "1", "2", "3", "4", "5"]);
+    let page = page();
+    let section = page.split("\n## Statuses\n").nth(1).expect("there is one");
+    let section = section.split("\n## ").next().unwrap_or_default();
+    for (number, when) in &statuses {
+        let row = format!("| {number} | {when} |\n");
+        assert!(section.contains(&row), "{row}");
+    }
+    assert_eq!(
+        section.matches("\n| ").count(),
+        statuses.len() + 1,
+        "{section}"
+    );
+}
+
+/// A list of the help, by the line before it: what begins each of its lines, and the rest of the line.
+fn list_of_help<'a>(help: &'a str, head: &str) -> Vec<(&'a str, &'a str)> {
+    let lines = help.lines().skip_while(|line| *line != head).skip(1);
+    let lines = lines.map_while(|line| line.strip_prefix("  "));
+    let rows = lines.filter_map(|line| line.split_once(' '));
+    rows.map(|(first, rest)| (first, rest.trim())).collect()
 }
 
 #[test]

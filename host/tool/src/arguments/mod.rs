@@ -3,10 +3,11 @@
 pub mod call;
 pub mod command;
 pub mod command_line;
-pub mod help;
+pub mod completions;
 pub mod lines;
 pub mod mailbox_calls;
 pub mod numbers;
 pub mod quoted;
 pub mod wanted_entry;
 pub mod words;
+pub mod wrong_words;

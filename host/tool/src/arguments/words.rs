@@ -1,237 +1,209 @@
-//! The words that follow a command: which of them are options, and which are not.
+//! The words that commands declare to clap: files, numbers and options; and how they are taken once clap has parted them.
 
-use crate::arguments::numbers;
 use crate::arguments::quoted::quoted;
+use clap::builder::TypedValueParser;
+use clap::error::{ContextKind, ContextValue, ErrorKind};
+use clap::{value_parser, Arg, ArgAction, ArgMatches, ValueHint};
+use std::any::Any;
 use std::ffi::{OsStr, OsString};
 use std::os::unix::ffi::{OsStrExt, OsStringExt};
 
-/// An option of a command.
-pub struct CommandOption {
-    /// With its two hyphens.
-    pub name: &'static str,
-    /// What follows it, as the help shows it; none where it stands alone.
-    pub takes: Option<&'static str>,
+/// The option by which an answer is written for programs.
+pub const JSON: &str = "json";
+
+/// The option by which a file that is there may be written over.
+pub const FORCE: &str = "force";
+
+/// A file that must be named. Its name need not be text; `-` is standard input where a file is read.
+pub fn file(role: &'static str, says: &'static str) -> Arg {
+    any_file(role, says).required(true)
 }
 
-/// The answer is written for programs.
-pub const JSON: CommandOption = CommandOption {
-    name: "--json",
-    takes: None,
-};
-
-/// A file that is there may be written over.
-pub const FORCE: CommandOption = CommandOption {
-    name: "--force",
-    takes: None,
-};
-
-/// The words that follow a command, once its options are taken out.
-#[derive(Debug, PartialEq, Eq)]
-pub struct Words {
-    command: &'static str,
-    options: Vec<(&'static str, Option<OsString>)>,
-    /// The words that are no options, in their order.
-    pub others: Vec<OsString>,
+/// A file that may be named, and is standard input where it is not.
+pub fn file_or_input(role: &'static str, says: &'static str) -> Arg {
+    any_file(role, says)
+        .default_value("-")
+        .hide_default_value(true)
 }
 
-impl Words {
-    /// Parts the words of a command. An option may stand anywhere; `NAME VALUE` and `NAME=VALUE` mean the same; after `--`
-    /// no word is an option, and `-` is none. The error says what is wrong and what to do.
-    pub fn part(
-        command: &'static str,
-        options: &'static [CommandOption],
-        words: &[OsString],
-    ) -> Result<Words, String> {
-        let mut parted = Words {
-            command,
-            options: Vec::new(),
-            others: Vec::new(),
-        };
-        let mut words = words.iter();
-        while let Some(word) = words.next() {
-            let bytes = word.as_bytes();
-            if bytes == b"--" {
-                parted.others.extend(words.cloned());
-                break;
-            }
-            if bytes == b"-" || !bytes.starts_with(b"-") {
-                parted.others.push(word.clone());
-                continue;
-            }
-            let end = bytes.iter().position(|&byte| byte == b'=');
-            let name = &bytes[..end.unwrap_or(bytes.len())];
-            let option = options
-                .iter()
-                .find(|option| option.name.as_bytes() == name)
-                .ok_or_else(|| {
-                    parted.wrong(&format!(
-                        "has no option {}; a word that begins with a hyphen is given after `--`",
-                        quoted(name)
-                    ))
-                })?;
-            let joined = end.map(|end| OsString::from_vec(bytes[end + 1..].to_vec()));
-            let value = match (option.takes, joined) {
-                (None, None) => None,
-                (None, Some(_)) => {
-                    return Err(parted.wrong(&format!("lets nothing follow {}", option.name)))
-                }
-                (Some(_), Some(value)) => Some(value),
-                (Some(takes), None) => Some(words.next().cloned().ok_or_else(|| {
-                    parted.wrong(&format!("wants {takes} after {}", option.name))
-                })?),
-            };
-            if parted.has(option.name) {
-                return Err(parted.wrong(&format!("takes {} once", option.name)));
-            }
-            parted.options.push((option.name, value));
-        }
-        Ok(parted)
-    }
+/// Any number of files.
+pub fn files(role: &'static str, says: &'static str) -> Arg {
+    any_file(role, says).num_args(0..)
+}
 
-    /// Whether an option is given.
-    pub fn has(&self, option: &str) -> bool {
-        self.options.iter().any(|(name, _)| *name == option)
-    }
+fn any_file(role: &'static str, says: &'static str) -> Arg {
+    let file = Arg::new(role).value_parser(value_parser!(OsString));
+    file.value_hint(ValueHint::AnyPath).help(says)
+}
 
-    /// What follows an option, where it is given.
-    pub fn value(&self, option: &str) -> Option<&OsStr> {
-        let given = self.options.iter().find(|(name, _)| *name == option);
-        given.and_then(|(_, value)| value.as_deref())
+/// A folder that a command fills with files. They cannot go to standard output, so that `-` would be a slip.
+pub fn folder(role: &str, word: &[u8]) -> Result<OsString, String> {
+    match word {
+        b"-" | b"" => Err(format!(
+            "{role} is {}, which is no folder; name one, as in ./parts",
+            quoted(word)
+        )),
+        name => Ok(OsString::from_vec(name.to_vec())),
     }
+}
 
-    /// Checks that the words that are no options are these and no more; a role in brackets, as in `[SUB]`, may be missing.
-    pub fn expect(&self, roles: &[&str]) -> Result<(), String> {
-        let given = self.others.len();
-        match roles.get(given) {
-            Some(missing) if !missing.starts_with('[') => {
-                return Err(self.wrong(&format!("lacks {missing}")))
-            }
-            _ => (),
-        }
-        match self.others.get(roles.len()) {
-            Some(more) => Err(self.wrong(&format!(
-                "does not take the word {}",
-                quoted(more.as_bytes())
-            ))),
-            None => Ok(()),
-        }
+/// A word that must be there and that `read` understands, such as a number. `read` is given what the word is called and the word;
+/// its error is told as it stands.
+pub fn word<T: Any + Clone + Send + Sync>(
+    role: &'static str,
+    says: &'static str,
+    read: Read<T>,
+) -> Arg {
+    let word = Arg::new(role).value_parser(ReadBy(read));
+    word.required(true).help(says)
+}
+
+/// A word whose place depends on the options that are given, so that its command reads it by itself.
+pub fn later_word(role: &'static str, says: &'static str) -> Arg {
+    any_file(role, says)
+}
+
+/// An option that stands alone.
+pub fn flag(name: &'static str, says: &'static str) -> Arg {
+    let option = Arg::new(name).long(name).action(ArgAction::SetTrue);
+    option.help(says)
+}
+
+/// An option that a word follows, which `read` understands as in [`word`].
+pub fn option<T: Any + Clone + Send + Sync>(
+    name: &'static str,
+    takes: &'static str,
+    says: &'static str,
+    read: Read<T>,
+) -> Arg {
+    let option = Arg::new(name).long(name).value_name(takes);
+    option.value_parser(ReadBy(read)).help(says)
+}
+
+/// `--json`.
+pub fn json() -> Arg {
+    flag(
+        JSON,
+        "write the same for programs; docs/USER.md has the fields",
+    )
+}
+
+/// `--force`.
+pub fn force() -> Arg {
+    flag(FORCE, "write over a FILE that is there")
+}
+
+/// What a word that must be there, or that stands for itself where it is not, was read as.
+pub fn required<T: Any + Clone + Send + Sync>(matches: &ArgMatches, role: &str) -> T {
+    given(matches, role).expect("clap lets no line through that lacks a required word")
+}
+
+/// What a word was read as, where it is there.
+pub fn given<T: Any + Clone + Send + Sync>(matches: &ArgMatches, role: &str) -> Option<T> {
+    matches.get_one::<T>(role).cloned()
+}
+
+/// How a word is read, by what it is called and the word itself.
+pub type Read<T> = fn(&str, &[u8]) -> Result<T, String>;
+
+/// Reads a word, which need not be text, and keeps the reason where it cannot be read.
+#[derive(Clone)]
+struct ReadBy<T>(Read<T>);
+
+impl<T: Any + Clone + Send + Sync> TypedValueParser for ReadBy<T> {
+    type Value = T;
+
+    fn parse_ref(
+        &self,
+        _: &clap::Command,
+        argument: Option<&Arg>,
+        word: &OsStr,
+    ) -> Result<T, clap::Error> {
+        let role = argument.map(called).unwrap_or_default();
+        (self.0)(&role, word.as_bytes()).map_err(|reason| {
+            let mut error = clap::Error::new(ErrorKind::ValueValidation);
+            error.insert(ContextKind::Custom, ContextValue::String(reason));
+            error
+        })
     }
+}
 
-    /// A number from 0 to `most`: the word at a place among those that are no options.
-    pub fn number(&self, role: &str, at: usize, most: u64) -> Result<u64, String> {
-        numbers::number(role, self.others[at].as_bytes(), most).map_err(|wrong| self.unfit(&wrong))
-    }
-
-    /// A number from 0 to `most` after an option, where the option is given.
-    pub fn number_after(&self, option: &str, most: u64) -> Result<Option<u64>, String> {
-        let number = |word: &OsStr| numbers::number(option, word.as_bytes(), most);
-        let given = self.value(option).map(number).transpose();
-        given.map_err(|wrong| self.unfit(&wrong))
-    }
-
-    /// The message for a word that is not what it should be.
-    pub fn unfit(&self, wrong: &str) -> String {
-        self.wrong(&format!("cannot use its words: {wrong}"))
-    }
-
-    /// The message for words that are wrong: what is wrong, and where the right ones stand.
-    pub fn wrong(&self, what: &str) -> String {
-        let command = self.command;
-        format!("{command} {what}. `kpalumere {command} --help` has its words.")
+/// What messages call an argument: an option by its name with its hyphens, another word by its role.
+fn called(argument: &Arg) -> String {
+    match argument.get_long() {
+        Some(name) => format!("--{name}"),
+        None => argument.get_id().to_string(),
     }
 }
 
 #[cfg(test)]
 mod tests {
     use super::*;
+    use crate::arguments::numbers::number8;
 
-    static OPTIONS: &[CommandOption] = &[
-        JSON,
-        CommandOption {
-            name: "--out",
-            takes: Some("FILE"),
-        },
-    ];
-
-    fn part(words: &[&str]) -> Result<Words, String> {
-        let words: Vec<OsString> = words.iter().map(OsString::from).collect();
-        Words::part("find", OPTIONS, &words)
+    /// What clap makes of some words, which need not be text.
+    fn parted(arguments: Vec<Arg>, words: &[&[u8]]) -> Result<ArgMatches, clap::Error> {
+        let words = words.iter().map(|word| OsStr::from_bytes(word));
+        let declared = clap::Command::new("tried").no_binary_name(true);
+        declared.args(arguments).try_get_matches_from(words)
     }
 
     #[test]
-    fn options_stand_anywhere_and_the_other_words_keep_their_order() {
+    fn a_file_keeps_its_name_whatever_it_is() {
+        for name in [&b"-"[..], b"", b"caf\xe9.rom", b"a\n\x1b", b"--"] {
+            let matches = parted(vec![file("FILE", "")], &[b"--", name]).unwrap();
+            let kept: OsString = required(&matches, "FILE");
+            assert_eq!(kept.as_bytes(), name);
+        }
+        let names: [&[u8]; 3] = [b"b", b"-", b"\xff"];
+        let matches = parted(vec![files("FILE", "")], &names).unwrap();
+        let kept = matches.get_many::<OsString>("FILE").unwrap();
+        assert!(kept.map(|name| name.as_bytes()).eq(names));
+    }
+
+    #[test]
+    fn a_file_that_is_not_named_is_standard_input() {
+        for (words, name) in [(&[][..], "-"), (&[&b"-"[..]], "-"), (&[b"a"], "a")] {
+            let matches = parted(vec![file_or_input("FILE", "")], words).unwrap();
+            assert_eq!(required::<OsString>(&matches, "FILE"), name);
+        }
+    }
+
+    #[test]
+    fn options_stand_anywhere_and_their_words_are_read() {
+        let declared = || {
+            let level = option("level", "L", "", number8);
+            vec![word("SUB", "", number8), level, json()]
+        };
         for words in [
-            ["a", "--json", "b", "--out", "c"],
-            ["--out", "c", "a", "b", "--json"],
+            [&b"0x10"[..], b"--json", b"--level=2"],
+            [b"--level=2", b"0x10", b"--json"],
         ] {
-            let parted = part(&words).unwrap();
-            assert_eq!(parted.others, ["a", "b"]);
-            assert!(parted.has("--json"));
-            assert_eq!(parted.value("--out"), Some(OsStr::new("c")));
+            let matches = parted(declared(), &words).unwrap();
+            assert_eq!(required::<u8>(&matches, "SUB"), 16);
+            assert_eq!(given::<u8>(&matches, "level"), Some(2));
+            assert!(matches.get_flag(JSON));
         }
-        let parted = part(&["--out=a=b", "-"]).unwrap();
-        assert_eq!(parted.value("--out"), Some(OsStr::new("a=b")));
-        assert_eq!(parted.others, ["-"]);
-        assert!(!parted.has("--json"));
-        assert_eq!(parted.value("--json"), None);
+        let matches = parted(declared(), &[b"1"]).unwrap();
+        assert_eq!(given::<u8>(&matches, "level"), None);
+        assert!(!matches.get_flag(JSON));
     }
 
     #[test]
-    fn after_two_hyphens_no_word_is_an_option() {
-        let parted = part(&["--", "--json", "--"]).unwrap();
-        assert_eq!(parted.others, ["--json", "--"]);
-        assert!(!parted.has("--json"));
-    }
-
-    #[test]
-    fn wrong_options_are_told() {
-        for (words, what) in [
-            (&["--jsn"][..], "has no option '--jsn'; "),
-            (&["-j"], "has no option '-j'; "),
-            (&["--jso=x"], "has no option '--jso'; "),
-            (&["--json=x"], "lets nothing follow --json. "),
-            (&["--out"], "wants FILE after --out. "),
-            (&["--json", "a", "--json"], "takes --json once. "),
-            (&["--out", "a", "--out=b"], "takes --out once. "),
+    fn the_reason_that_a_word_cannot_be_read_is_kept() {
+        let level = || option("level", "L", "", number8);
+        for (words, begins) in [
+            (&[&b"\xff"[..]][..], "SUB is '\\xff', which is no number; "),
+            (&[b"256"], "SUB is '256', which is too large; "),
+            (
+                &[b"1", b"--level", b"x"],
+                "--level is 'x', which is no number; ",
+            ),
         ] {
-            let message = part(words).unwrap_err();
-            assert!(message.starts_with(&format!("find {what}")), "{message}");
-            assert!(message.ends_with("`kpalumere find --help` has its words."));
-        }
-    }
-
-    #[test]
-    fn too_few_and_too_many_words_are_told() {
-        let roles = ["IMAGE", "TYPE", "[SUB]"];
-        for words in [&["a", "b"][..], &["a", "b", "c"]] {
-            assert_eq!(part(words).unwrap().expect(&roles), Ok(()));
-        }
-        for (words, what) in [
-            (&[][..], "find lacks IMAGE. "),
-            (&["a"], "find lacks TYPE. "),
-            (&["a", "b", "c", "d"], "find does not take the word 'd'. "),
-        ] {
-            let message = part(words).unwrap().expect(&roles).unwrap_err();
-            assert!(message.starts_with(what), "{message}");
-        }
-    }
-
-    #[test]
-    fn numbers_are_read_from_words_and_after_options() {
-        let words = part(&["0x10", "x", "--out", "7"]).unwrap();
-        assert_eq!(words.number("SUB", 0, 16), Ok(16));
-        assert_eq!(words.number_after("--out", 7), Ok(Some(7)));
-        assert_eq!(words.number_after("--json", 7), Ok(None));
-        for message in [
-            words.number("SUB", 0, 15).unwrap_err(),
-            words.number("SUB", 1, 15).unwrap_err(),
-            words.number_after("--out", 6).map(|_| ()).unwrap_err(),
-        ] {
-            assert!(
-                message.starts_with("find cannot use its words: "),
-                "{message}"
-            );
-            assert!(message.ends_with(". `kpalumere find --help` has its words."));
+            let error = parted(vec![word("SUB", "", number8), level()], words).unwrap_err();
+            assert_eq!(error.kind(), ErrorKind::ValueValidation);
+            let reason = error.get(ContextKind::Custom).unwrap().to_string();
+            assert!(reason.starts_with(begins), "{reason}");
         }
     }
 }

@@ -1,30 +1,32 @@
 //! `kpalumere aspt`: the AMD Secure Processor Table, laid out with the names of source 000.
 
 use crate::arguments::command::{Command, Job, OF_A_TABLE};
-use crate::shown::answer::table_shown;
+use crate::shown::answer::{table_shown, table_words};
 use crate::shown::digits::hexadecimal;
 use crate::shown::json::{Fields, Json};
 use crate::shown::refusals;
 use bindings::{aspt_read, Answer, AsptStructure, AsptTable};
-use std::ffi::OsString;
+use clap::ArgMatches;
 
 pub static COMMAND: Command = Command {
     name: "aspt",
-    words: "FILE [--json]",
     does: "the ACPI table ASPT, laid out with its names",
+    words: |command| {
+        table_words(
+            command,
+            "the table, in its first 112 bytes, or - for standard input",
+        )
+    },
     help: || HELP.to_string(),
     statuses: OF_A_TABLE,
     read,
 };
 
-/// What `aspt --help` prints.
+/// What `aspt --help` says.
 const HELP: &str = "\
-kpalumere aspt FILE [--json]: the AMD Secure Processor Table (ASPT), laid out
-with the names that source 000 gives its fields.
-
-FILE holds the table in its first 112 bytes, or is - for standard input.
-Registers are shown with their offset and with the address that base and offset
-make. --json writes the same for programs; docs/USER.md has the fields.
+The fields of the AMD Secure Processor Table (ASPT) have the names that source
+000 gives them. Registers are shown with their offset and with the address that
+base and offset make.
 
 Try it, on a machine that has the table:
   kpalumere aspt /sys/firmware/acpi/tables/ASPT
@@ -63,8 +65,8 @@ static STRUCTURES: [Names; 3] = [
 /// The type that has a Mailbox Interrupt ID.
 const SEV_MAILBOX: u16 = 1;
 
-fn read(words: &[OsString]) -> Result<Job, String> {
-    table_shown(COMMAND.name, words, aspt_read, text, fields)
+fn read(matches: &ArgMatches) -> Result<Job, String> {
+    table_shown(matches, aspt_read, text, fields)
 }
 
 fn text(answer: &Answer<AsptTable>) -> String {

@@ -4,7 +4,8 @@ use crate::arguments::command::{Command, Job, WRONG_WORDS};
 use crate::arguments::lines::words_of;
 use crate::arguments::numbers::{number, number32, number8};
 use crate::arguments::quoted::quoted;
-use crate::arguments::words::{Words, FORCE};
+use crate::arguments::words::{file, force, required, FORCE};
+use crate::arguments::wrong_words::sentence;
 use crate::shown::forms;
 use crate::shown::names;
 use crate::shown::refusals;
@@ -14,38 +15,45 @@ use crate::system::messages::say;
 use crate::system::new_file;
 use crate::system::output::print;
 use bindings::{extend, start, NewEntry, Refusal};
+use clap::ArgMatches;
 use std::ffi::{OsStr, OsString};
 use std::os::unix::ffi::OsStrExt;
 
 pub static COMMAND: Command = Command {
     name: "build",
-    words: "SPEC FILE [--force]",
     does: "a directory from a description in text, into a new file",
+    words: |command| {
+        command
+            .arg(file("SPEC", "the description, or - for standard input"))
+            .arg(file("FILE", "the file to write"))
+            .arg(force())
+    },
     help,
     statuses: &[
         (0, "FILE holds the directory"),
-        (1, "a line is wrong or refused"),
+        (
+            1,
+            "a line of SPEC is no level or entry, and nothing is written",
+        ),
         WRONG_WORDS,
         (3, "SPEC cannot be read or FILE cannot be written"),
+        (5, "a line of SPEC is refused, and nothing is written"),
     ],
     read,
 };
 
-/// What `build --help` prints.
+/// What `build --help` says.
 fn help() -> String {
     let names = names::list_of_types();
     format!(
         "\
-kpalumere build SPEC FILE [--force]: a directory from a description in text,
-with its checksum, into a new file.
-
-SPEC is a text file, or - for standard input. Its first line is `level 1` or
-`level 2`; each line after it is one entry:
+The first line of SPEC is `level 1` or `level 2`; each line after it is one
+entry:
   TYPE SUB SIZE LOCATION MODE
 TYPE is a number or one of the names below, and no two lines have the same TYPE
 and SUB. MODE is how LOCATION counts: physical, image, directory, partition, or
 its number 0 to 3. Numbers are decimal, or 0x and hexadecimal. Words are parted
-by spaces or tabs; # starts a comment.
+by spaces or tabs; # starts a comment. The checksum is written with the entries.
 
 A FILE that is there already is left as it is, unless --force is given; then it
 is replaced in one step, so that a failure leaves it whole. Where a line is
@@ -76,12 +84,12 @@ struct Built {
 /// Something wrong with a line: its number, what is wrong and what to do.
 type WrongLine = (usize, String);
 
-fn read(words: &[OsString]) -> Result<Job, String> {
-    let words = Words::part(COMMAND.name, &[FORCE], words)?;
-    words.expect(&["SPEC", "FILE"])?;
+fn read(matches: &ArgMatches) -> Result<Job, String> {
+    let spec: OsString = required(matches, "SPEC");
+    let file: OsString = required(matches, "FILE");
+    let force = matches.get_flag(FORCE);
     Ok(Box::new(move || {
-        let (spec, file) = (&words.others[0], &words.others[1]);
-        files::asked(spec, |text| run(spec, text, file, words.has(FORCE.name)))
+        files::asked(&spec, |text| run(&spec, text, &file, force))
     }))
 }
 
@@ -92,11 +100,12 @@ fn run(spec: &OsStr, text: &[u8], file: &OsStr, force: bool) -> Ending {
         Err(wrong) => {
             for (line, reason) in wrong {
                 say(&format!(
-                    "kpalumere: {}: {reason}.",
-                    forms::line(&name, line)
+                    "{}: {}",
+                    forms::line(&name, line),
+                    sentence(&reason)
                 ));
             }
-            say("kpalumere: nothing is written.");
+            say("nothing is written.");
             return Ending::BadLine;
         }
     };

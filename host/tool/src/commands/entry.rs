@@ -1,63 +1,66 @@
 //! `kpalumere entry`: one entry of a directory, with names and words, and where its bytes lie.
 
 use crate::arguments::command::{Command, Job, WRONG_WORDS};
-use crate::arguments::wanted_entry::WantedEntry;
-use crate::arguments::words::{Words, JSON};
-use crate::shown::answer::show;
+use crate::arguments::wanted_entry::{WantedDirectory, WantedEntry};
+use crate::arguments::words::{file, json};
+use crate::shown::answer::{show, Asked};
 use crate::shown::entry::EntryShown;
 use crate::shown::forms;
 use crate::shown::json::{Fields, Json};
 use crate::shown::refusals;
 use crate::shown::repeats;
-use bindings::{directory, Answer, Directory};
-use std::ffi::OsString;
+use bindings::{Answer, Directory};
+use clap::ArgMatches;
 
 pub static COMMAND: Command = Command {
     name: "entry",
-    words: "IMAGE LEVEL INDEX [--json]",
     does: "one entry of a directory in words, and where its bytes lie",
+    words: |command| {
+        command
+            .override_usage(USAGE)
+            .arg(file("IMAGE", "a flash image, or - for standard input"))
+            .args(WantedEntry::words())
+            .arg(json())
+    },
     help: || HELP.to_string(),
     statuses: &[
         (
             0,
             "the entry is given and its bytes lie in the image, or it holds a value",
         ),
-        (1, "the entry or its bytes are refused"),
         WRONG_WORDS,
         (
             3,
             "the image cannot be read or the output cannot be written",
         ),
+        (5, "the entry or its bytes are refused"),
     ],
     read,
 };
 
-/// What `entry --help` prints.
-const HELP: &str = "\
-kpalumere entry IMAGE LEVEL INDEX [--json]: one entry of a directory in words,
-and where its bytes lie or why not.
+/// The two ways to name an entry.
+const USAGE: &str = "\
+kpalumere entry [OPTIONS] <IMAGE> <LEVEL> <INDEX>
+       kpalumere entry [OPTIONS] <IMAGE> --at <PLACE> <INDEX>";
 
-IMAGE is a flash image, or - for standard input. LEVEL is 1 or 2; INDEX counts
-the directory's entries from 0. Numbers are decimal, or 0x and hexadecimal.
---json writes the same for programs; docs/USER.md has the fields.
+/// What `entry --help` says.
+const HELP: &str = "\
+Level 2 may have several directories. `kpalumere register IMAGE` lists them all
+with the places where they begin, and --at takes any of these. Numbers are
+decimal, or 0x and hexadecimal.
 
 Try it:
   kpalumere entry board.rom 1 0
+  kpalumere entry board.rom --at 0x28000 0
 ";
 
-fn read(words: &[OsString]) -> Result<Job, String> {
-    let words = Words::part(COMMAND.name, &[JSON], words)?;
-    words.expect(&["IMAGE", "LEVEL", "INDEX"])?;
-    let wanted = WantedEntry::read(&words, 1)?;
+fn read(matches: &ArgMatches) -> Result<Job, String> {
+    let asked = Asked::read(matches, "IMAGE");
+    let (wanted, _) = WantedEntry::read(matches, &[])?;
     Ok(Box::new(move || {
         show(
-            &words,
-            |image| {
-                Ok((
-                    directory(image, wanted.level)?,
-                    EntryShown::of(image, wanted)?,
-                ))
-            },
+            &asked,
+            |image| EntryShown::wanted(image, wanted),
             |image, answer| text(image, wanted, answer),
             |answer| fields(wanted, answer),
             |(_, shown)| shown.ending(),
@@ -66,15 +69,20 @@ fn read(words: &[OsString]) -> Result<Job, String> {
 }
 
 fn text(image: &[u8], wanted: WantedEntry, answer: &Answer<(Directory, EntryShown)>) -> String {
-    let WantedEntry { level, index } = wanted;
     match answer {
-        Ok((Directory { place, total, .. }, shown)) => format!(
+        Ok((directory, shown)) => format!(
             "{}, which has {}\n{}",
-            forms::entry(index, &forms::directory(level, *place)),
-            forms::entries(*total),
+            forms::entry(
+                wanted.index,
+                &forms::directory(directory.level, directory.place)
+            ),
+            forms::entries(directory.total),
             shown.lines()
         ),
-        Err(refusal) => format!("{}\n", repeats::told(image, *refusal)),
+        Err(refusal) => {
+            let told = repeats::told_of(image, wanted.directory, *refusal);
+            format!("{told}\n")
+        }
     }
 }
 
@@ -83,8 +91,17 @@ fn fields(wanted: WantedEntry, answer: &Answer<(Directory, EntryShown)>) -> Fiel
     let number = |of: fn(&Directory) -> u64| {
         Json::or_null(given, |(directory, _)| Json::Number(of(directory)))
     };
+    // What was asked for is told whatever the answer is.
+    let (level, at) = match wanted.directory {
+        WantedDirectory::Level(level) => (Json::Number(u64::from(level)), Json::Null),
+        WantedDirectory::At(place) => (
+            number(|directory| directory.level),
+            Json::Number(place as u64),
+        ),
+    };
     vec![
-        ("level", Json::Number(u64::from(wanted.level))),
+        ("level", level),
+        ("at", at),
         ("directory", number(|directory| directory.place)),
         ("total", number(|directory| directory.total)),
         ("refused", refusals::json(answer)),

@@ -1,20 +1,22 @@
 //! `kpalumere explain`: what a refusal number means, what usually causes it, and what to look at.
 
 use crate::arguments::command::{Command, Job};
-use crate::arguments::numbers;
-use crate::arguments::words::Words;
+use crate::arguments::numbers::number;
+use crate::arguments::words::{given, word};
 use crate::shown::boards;
 use crate::shown::refusals::{explained, numbered, Explained, REFUSALS};
 use crate::system::folding::folded;
 use crate::system::output::print;
 use crate::system::terminal;
-use std::ffi::OsString;
-use std::os::unix::ffi::OsStrExt;
+use clap::ArgMatches;
 
 pub static COMMAND: Command = Command {
     name: "explain",
-    words: "[NUMBER]",
-    does: "what a refusal number means, what usually causes it, what to look at",
+    does: "what a refusal means, what causes it, and what to look at",
+    words: |command| {
+        let says = "the number of a refusal; without it all are listed, a line each";
+        command.arg(word("NUMBER", says, known).required(false))
+    },
     help,
     statuses: &[
         (0, "what was asked for is printed"),
@@ -24,17 +26,13 @@ pub static COMMAND: Command = Command {
     read,
 };
 
-/// What `explain --help` prints.
+/// What `explain --help` says.
 fn help() -> String {
     let amount = REFUSALS.len();
     format!(
         "\
-kpalumere explain [NUMBER]: what a refusal number means, what usually causes it,
-and what to look at.
-
 Where the library does not accept an image, a table or a call, it gives one of
 the {amount} numbers of document 01, and a command shows it as 'refused N'.
-Without NUMBER all of them are listed, a line each.
 
 Try it:
   kpalumere explain
@@ -46,25 +44,26 @@ Try it:
 /// How wide the lines are where the output is no terminal.
 const USUAL_COLUMNS: usize = 100;
 
-fn read(words: &[OsString]) -> Result<Job, String> {
-    let words = Words::part(COMMAND.name, &[], words)?;
-    words.expect(&["[NUMBER]"])?;
-    let text = match words.others.first() {
-        None => list(),
-        Some(word) => {
-            let number = numbers::number("NUMBER", word.as_bytes(), u64::MAX)
-                .map_err(|wrong| words.wrong(&format!("wants a number, but {wrong}")))?;
-            let known = explained(number).ok_or_else(|| {
-                words.wrong(&format!(
-                    "knows the numbers 1 to {}, and there is no refusal {number}; \
-                     `kpalumere explain` lists them all",
-                    REFUSALS.len()
-                ))
-            })?;
-            page(known, terminal::columns().unwrap_or(USUAL_COLUMNS))
-        }
-    };
-    Ok(Box::new(move || print(&text)))
+fn read(matches: &ArgMatches) -> Result<Job, String> {
+    let asked: Option<&Explained> = given(matches, "NUMBER");
+    Ok(Box::new(move || {
+        print(&match asked {
+            None => list(),
+            Some(known) => page(known, terminal::columns().unwrap_or(USUAL_COLUMNS)),
+        })
+    }))
+}
+
+/// The refusal that a word is the number of.
+fn known(role: &str, word: &[u8]) -> Result<&'static Explained, String> {
+    let number = number(role, word, u64::MAX)?;
+    explained(number).ok_or_else(|| {
+        format!(
+            "there is no refusal {number}; the numbers are 1 to {}, and `kpalumere explain` lists \
+             them all",
+            REFUSALS.len()
+        )
+    })
 }
 
 /// Every number, a line each.
@@ -141,11 +140,11 @@ mod tests {
     #[test]
     fn numbers_that_there_are_not_are_told() {
         for word in ["0", "19", "-1", "four", "", "99999999999999999999"] {
-            let message = match read(&[OsString::from(word)]) {
-                Ok(_) => panic!("{word} is read"),
+            let message = match known("NUMBER", word.as_bytes()) {
+                Ok(known) => panic!("{word} is {}", known.number),
                 Err(message) => message,
             };
-            assert!(message.contains("`kpalumere explain --help`"), "{message}");
+            assert!(message.contains("; "), "{message}");
         }
     }
 }

@@ -1,59 +1,71 @@
 //! `kpalumere find`: the first entry of a type and subprogram, in the whole image or in one directory.
 
 use crate::arguments::command::{Command, Job, WRONG_WORDS};
-use crate::arguments::words::{CommandOption, Words, JSON};
-use crate::shown::answer::show;
+use crate::arguments::numbers::{number32, number8};
+use crate::arguments::words::{file, given, json, option, required, word};
+use crate::shown::answer::{show, Asked};
 use crate::shown::entry::EntryShown;
 use crate::shown::forms;
 use crate::shown::json::{Fields, Json};
 use crate::shown::names;
 use crate::shown::refusals;
 use crate::shown::repeats;
-use bindings::{directory, find_image, view_entry, view_part, Answer, ImageMatch, Refusal};
-use std::ffi::OsString;
+use crate::shown::shell;
+use bindings::{directory, find_image, Answer, ImageMatch, Part, Refusal};
+use clap::ArgMatches;
+use std::ffi::OsStr;
+use std::os::unix::ffi::OsStrExt;
 
 pub static COMMAND: Command = Command {
     name: "find",
-    words: "IMAGE TYPE SUB [--level L] [--json]",
-    does: "where an image keeps the entry of a type and subprogram",
+    does: "where the first entry of a type and subprogram lies",
+    words: |command| {
+        command
+            .arg(file("IMAGE", "a flash image, or - for standard input"))
+            .arg(word(
+                "TYPE",
+                "a number, or one of the names below",
+                |_, word| names::read_entry_type(OsStr::from_bytes(word)),
+            ))
+            .arg(word("SUB", "the subprogram, a number", number8))
+            .arg(option(
+                LEVEL,
+                "L",
+                "search the directory of that level alone",
+                number32,
+            ))
+            .arg(json())
+    },
     help,
     statuses: &[
         (
             0,
             "it is found and its bytes lie in the image, or it holds a value",
         ),
-        (1, "there is none, or the image or the bytes are refused"),
+        (1, "there is none"),
         WRONG_WORDS,
         (
             3,
             "the image cannot be read or the output cannot be written",
         ),
+        (5, "the image or the bytes are refused"),
     ],
     read,
 };
 
-static OPTIONS: &[CommandOption] = &[
-    CommandOption {
-        name: "--level",
-        takes: Some("L"),
-    },
-    JSON,
-];
+/// The option that names one directory.
+const LEVEL: &str = "level";
 
-/// What `find --help` prints.
+/// What `find --help` says.
 fn help() -> String {
     let names = names::list_of_types();
     format!(
         "\
-kpalumere find IMAGE TYPE SUB [--level L] [--json]: the first entry of a type
-and subprogram, and where its bytes lie.
-
 The whole image is searched: level 1 in order, and level 2 where an entry leads
 to it, before the entry after that one. With --level L the directory of that
-level is searched alone. IMAGE is a flash image, or - for standard input. SUB is
-a number, TYPE a number or one of the names below; numbers are decimal, or 0x
-and hexadecimal. How many entries were tested is told, found or not. --json
-writes the same for programs; docs/USER.md has the fields.
+level is searched alone. Numbers are decimal, or 0x and hexadecimal. How many
+entries were tested is told, found or not; and of what is found, the words that
+extract its bytes.
 
 Try it:
   kpalumere find board.rom boot-loader 0
@@ -78,21 +90,18 @@ struct Found {
     shown: EntryShown,
 }
 
-fn read(words: &[OsString]) -> Result<Job, String> {
-    let words = Words::part(COMMAND.name, OPTIONS, words)?;
-    words.expect(&["IMAGE", "TYPE", "SUB"])?;
+fn read(matches: &ArgMatches) -> Result<Job, String> {
+    let asked = Asked::read(matches, "IMAGE");
     let wanted = Wanted {
-        class: names::read_entry_type(&words.others[1]).map_err(|wrong| words.unfit(&wrong))?,
-        subprogram: words.number("SUB", 2, u64::from(u8::MAX))? as u8,
-        level: words
-            .number_after("--level", u64::from(u32::MAX))?
-            .map(|level| level as u32),
+        class: required(matches, "TYPE"),
+        subprogram: required(matches, "SUB"),
+        level: given(matches, LEVEL),
     };
     Ok(Box::new(move || {
         show(
-            &words,
+            &asked,
             |image| wanted.find(image),
-            |image, answer| text(image, wanted, answer),
+            |image, answer| text(&asked.file, image, wanted, answer),
             |answer| fields(wanted, answer),
             |found| found.shown.ending(),
         )
@@ -116,11 +125,7 @@ impl Wanted {
             }
         };
         // A level two that the search went through need not be the one that a call by level opens.
-        let (place, index) = (at.place as usize, at.index as usize);
-        let shown = EntryShown {
-            entry: view_entry(image, place, index)?,
-            part: view_part(image, place, index),
-        };
+        let shown = EntryShown::of(image, at.place as usize, at.index as usize)?;
         Ok(Found { at, shown })
     }
 
@@ -140,19 +145,33 @@ impl Wanted {
     }
 }
 
-fn text(image: &[u8], wanted: Wanted, answer: &Answer<Found>) -> String {
+fn text(name: &OsStr, image: &[u8], wanted: Wanted, answer: &Answer<Found>) -> String {
     match answer {
         Ok(Found { at, shown }) => format!(
-            "{} ({})\n{}",
+            "{} ({})\n{}{}",
             forms::entry(at.index, &forms::directory(at.level, at.place)),
             forms::tested(at.tested),
-            shown.lines()
+            shown.lines(),
+            extract_line(name, *at, shown.part)
         ),
         Err(Refusal {
             tested: Some(tested),
             ..
         }) => wanted.none(image, *tested),
         Err(refusal) => format!("{}\n", repeats::told(image, *refusal)),
+    }
+}
+
+/// The words that extract what was found, as a shell takes them; none where there are no bytes to extract.
+fn extract_line(name: &OsStr, at: ImageMatch, part: Answer<Part>) -> String {
+    match part {
+        Ok(Part { length: 1.., .. }) => format!(
+            "  extract     kpalumere extract {} --at {:#x} {} FILE\n",
+            shell::file_word(name),
+            at.place,
+            at.index
+        ),
+        _ => String::new(),
     }
 }
 

@@ -1,31 +1,30 @@
 //! `kpalumere guids`: the GUID table at the end of a guest firmware image, with the names of the GUIDs that are known.
 
 use crate::arguments::command::{Command, Job, OF_A_TABLE};
-use crate::shown::answer::table_shown;
+use crate::shown::answer::{table_shown, table_words};
 use crate::shown::forms;
 use crate::shown::json::{Fields, Json};
+use crate::shown::page::{Look, Page};
 use crate::shown::refusals;
+use crate::system::terminal;
 use bindings::{guid_entry, Answer, Guid, GuidEntry, GuidTable};
-use std::ffi::OsString;
+use clap::ArgMatches;
 
 pub static COMMAND: Command = Command {
     name: "guids",
-    words: "FILE [--json]",
     does: "the GUID table of a guest firmware image, entry by entry",
+    words: |command| table_words(command, "a guest firmware image, or - for standard input"),
     help: || HELP.to_string(),
     statuses: OF_A_TABLE,
     read,
 };
 
-/// What `guids --help` prints.
+/// What `guids --help` says.
 const HELP: &str = "\
-kpalumere guids FILE [--json]: the GUID table at the end of a guest firmware
-image, such as OVMF.
-
-Every entry is shown, nearest the footer first: its GUID, where its data lies in
-FILE, how long the data is, and the name of the GUID where source 004 or OVMF
-gives it one. FILE may be - for standard input. --json writes the same for
-programs; docs/USER.md has the fields.
+The table stands at the end of a guest firmware image, such as OVMF. Every entry
+is shown, nearest the footer first: its GUID, where its data lies in FILE, how
+long the data is, and the name of the GUID where source 004 or OVMF gives it
+one.
 
 Try it, with the Debian package ovmf:
   kpalumere guids /usr/share/ovmf/OVMF.fd
@@ -67,8 +66,8 @@ struct Table {
     entries: Vec<GuidEntry>,
 }
 
-fn read(words: &[OsString]) -> Result<Job, String> {
-    table_shown(COMMAND.name, words, table_of, text, fields)
+fn read(matches: &ArgMatches) -> Result<Job, String> {
+    table_shown(matches, table_of, text, fields)
 }
 
 /// The table, by what the library answers.
@@ -82,33 +81,47 @@ fn table_of(image: &[u8]) -> Answer<Table> {
 }
 
 fn text(answer: &Answer<Table>) -> String {
+    text_in(terminal::columns(), answer)
+}
+
+/// The table in so many columns, or as wide as it is where nothing limits it.
+fn text_in(columns: Option<usize>, answer: &Answer<Table>) -> String {
     let Table { checked, entries } = match answer {
         Ok(table) => table,
         Err(refusal) => return format!("{}\n", refusals::told(*refusal)),
     };
-    let mut text = format!(
-        "GUID table, total {}, {}\n",
+    let mut page = Page::new(columns, false);
+    let head = format!(
+        "GUID table, total {}, {}",
         forms::size(checked.total),
         forms::entries(checked.entries)
     );
-    if !entries.is_empty() {
-        text.push_str(&row("index", "GUID", "data at", "length", "name"));
+    page.add(Look::Plain, 0, 2, &head);
+    let rows: Vec<[String; 5]> = (0..).zip(entries).map(cells).collect();
+    if !rows.is_empty() {
+        page.add_laid_out(2, HEADS, &rows, line);
     }
-    for (index, entry) in entries.iter().enumerate() {
-        let guid = guid_text(&entry.guid);
-        text.push_str(&row(
-            &index.to_string(),
-            &guid,
-            &format!("{:#x}", entry.place),
-            &entry.length.to_string(),
-            name_of(&guid).unwrap_or("unnamed GUID"),
-        ));
-    }
-    text
+    page.into_text()
 }
 
-fn row(index: &str, guid: &str, place: &str, length: &str, name: &str) -> String {
-    format!("  {index:>5}  {guid:<36}  {place:>9}  {length:>6}  {name}\n")
+/// What stands above the cells of an entry.
+const HEADS: [&str; 5] = ["index", "GUID", "data at", "length", "name"];
+
+fn cells((index, entry): (u64, &GuidEntry)) -> [String; 5] {
+    let guid = guid_text(&entry.guid);
+    let name = name_of(&guid).unwrap_or("unnamed GUID").to_string();
+    [
+        index.to_string(),
+        guid,
+        format!("{:#x}", entry.place),
+        entry.length.to_string(),
+        name,
+    ]
+}
+
+/// A line of the table.
+fn line([index, guid, place, length, name]: &[String; 5]) -> String {
+    format!("{index:>5}  {guid:<36}  {place:>9}  {length:>6}  {name}")
 }
 
 fn fields(answer: &Answer<Table>) -> Fields {
@@ -195,7 +208,7 @@ mod tests {
         assert_eq!(guid_start(&mut image), Ok(()));
         let table = table_of(&image);
         assert_eq!(
-            text(&table),
+            text_in(None, &table),
             "GUID table, total 0x12 (18 bytes), 0 entries\n"
         );
     }
@@ -206,7 +219,8 @@ mod tests {
         assert_eq!(guid_start(&mut image), Ok(()));
         assert_eq!(guid_extend(&mut image, &Guid([0xAB; 16]), b"abc"), Ok(39));
         assert_eq!(guid_extend(&mut image, &Guid([0; 16]), b""), Ok(57));
-        let text = text(&table_of(&image));
+        let table = table_of(&image);
+        let text = text_in(None, &table);
         let rows: Vec<&str> = text.lines().skip(2).map(str::trim).collect();
         assert_eq!(
             rows,
@@ -215,5 +229,11 @@ mod tests {
                 "1  00000000-0000-0000-0000-000000000000        0xb       0  unnamed GUID",
             ]
         );
+        assert_eq!(text_in(Some(90), &table), text);
+        let narrow = text_in(Some(50), &table);
+        assert!(narrow.lines().all(|line| line.len() <= 50), "{narrow}");
+        let told = "index 1, GUID 00000000-0000-0000-0000-000000000000, data at 0xb, length 0";
+        let together = narrow.split_whitespace().collect::<Vec<_>>().join(" ");
+        assert!(together.contains(told), "{narrow}");
     }
 }

@@ -1,40 +1,67 @@
-//! An entry of a directory as people and programs are shown it: its fields with their names, and where its bytes lie or why not.
+//! An entry of a directory as people and programs are shown it: its fields with their names, where its bytes lie or why not, and
+//! the version that they carry.
 
-use crate::arguments::wanted_entry::WantedEntry;
+use crate::arguments::wanted_entry::{WantedDirectory, WantedEntry};
 use crate::shown::forms;
 use crate::shown::json::{Fields, Json};
 use crate::shown::names;
 use crate::shown::refusals;
+use crate::shown::versions;
 use crate::system::ending::Ending;
-use bindings::{Answer, Entry, Part, Refusal};
+use bindings::{
+    directory, view_entries, view_entry, view_part, view_version, Answer, Directory, Entry, Part,
+    Refusal, Words,
+};
 
 /// What the library answers about one entry.
+#[derive(Clone, Copy)]
 pub struct EntryShown {
     pub entry: Entry,
     /// Where its bytes lie.
     pub part: Answer<Part>,
+    /// The version that its bytes carry, where it has bytes.
+    pub version: Option<Answer<u64>>,
 }
 
 impl EntryShown {
-    /// What the library answers about an entry of an image.
-    pub fn of(image: &[u8], wanted: WantedEntry) -> Answer<EntryShown> {
+    /// What the library answers about an entry of the directory that begins at a place of an image.
+    pub fn of(image: &[u8], place: usize, index: usize) -> Answer<EntryShown> {
+        let entry = view_entry(image, place, index)?;
+        let part = view_part(image, place, index);
         Ok(EntryShown {
-            entry: bindings::entry(image, wanted.level, wanted.index)?,
-            part: bindings::part(image, wanted.level, wanted.index),
+            entry,
+            part,
+            version: part.ok().map(|_| view_version(image, place, index)),
         })
     }
 
-    /// Whether the entry has no bytes since it holds a value. That is in order, and no fault of the image.
-    fn holds_a_value(&self) -> bool {
-        matches!(self.part, Err(refusal) if refusal.is(Refusal::VALUE))
+    /// What the library answers about the entry that is wanted, and about its directory.
+    pub fn wanted(image: &[u8], wanted: WantedEntry) -> Answer<(Directory, EntryShown)> {
+        let directory = match wanted.directory {
+            WantedDirectory::Level(level) => directory(image, level)?,
+            WantedDirectory::At(place) => view_entries(image, place, &mut Words::new())?.directory,
+        };
+        let shown = EntryShown::of(image, directory.place as usize, wanted.index)?;
+        Ok((directory, shown))
+    }
+
+    /// The value that the entry holds in place of bytes, where it does. That is in order, and no fault of the image.
+    pub fn value(&self) -> Option<u64> {
+        let refusal = self.part.err()?;
+        refusal.is(Refusal::VALUE).then_some(self.entry.location)
     }
 
     /// How a run ends that was asked for this entry: bytes that are refused count, but a value has none to refuse.
     pub fn ending(&self) -> Ending {
-        match self.part.is_ok() || self.holds_a_value() {
+        match self.part.is_ok() || self.value().is_some() {
             true => Ending::Done,
             false => Ending::Refused,
         }
+    }
+
+    /// The version that its bytes carry, where they have a firmware header.
+    pub fn version_words(&self) -> Option<String> {
+        versions::words(self.version?)
     }
 
     /// The lines on the entry, for people.
@@ -46,31 +73,41 @@ impl EntryShown {
             location,
             mode,
         } = self.entry;
-        let location = match self.holds_a_value() {
-            true => format!("  value       {location:#x}\n"),
-            false => {
+        let location = match self.value() {
+            Some(value) => format!("  value       {value:#x}\n"),
+            None => {
                 let counted = names::address_mode_words(mode);
                 format!("  location    {location:#x}, {counted}\n")
             }
+        };
+        let version = match (self.part, self.version_words()) {
+            (Err(_), _) => String::new(),
+            (Ok(_), None) => {
+                String::from("  version     none: the bytes have no firmware header\n")
+            }
+            (Ok(_), Some(version)) => format!("  version     {version}\n"),
         };
         format!(
             "  type        {}\n  \
                subprogram  {subprogram:#04x}\n  \
                size        {}\n\
              {location}  \
-               bytes       {}\n",
+               bytes       {}\n\
+             {version}",
             names::numbered_type(class),
             forms::size(size),
-            match self.part {
-                Ok(part) => forms::range_of_image(part),
-                Err(refusal) => refusals::told(refusal),
+            match (self.part, self.value()) {
+                (Ok(part), _) => forms::range_of_image(part),
+                (Err(_), Some(_)) => String::from("none: the entry holds the value"),
+                (Err(refusal), None) => refusals::told(refusal),
             }
         )
     }
 
     /// The fields of the entry for programs, with the index that it has in its directory.
     pub fn fields(&self, index: u64) -> Fields {
-        let EntryShown { entry, part } = self;
+        let EntryShown { entry, part, .. } = self;
+        let hexadecimal = |number: u64| Json::Text(format!("{number:#x}"));
         let name = names::entry_type(entry.class).map(|known| known.name);
         vec![
             ("index", Json::Number(index)),
@@ -79,7 +116,8 @@ impl EntryShown {
             ("subprogram", Json::Number(entry.subprogram)),
             ("size", Json::Number(entry.size)),
             ("mode", Json::Number(entry.mode)),
-            ("location", Json::Text(format!("{:#x}", entry.location))),
+            ("location", hexadecimal(entry.location)),
+            ("value", Json::or_null(self.value(), hexadecimal)),
             (
                 "place",
                 Json::or_null(part.ok(), |part| Json::Number(part.place)),
@@ -88,7 +126,13 @@ impl EntryShown {
                 "length",
                 Json::or_null(part.ok(), |part| Json::Number(part.length)),
             ),
-            ("refused", refusals::json(part)),
+            // A value is in order: what says that there are no bytes is the value itself.
+            (
+                "refused",
+                self.value()
+                    .map_or_else(|| refusals::json(part), |_| Json::Null),
+            ),
+            ("version", Json::or_null(self.version_words(), Json::Text)),
         ]
     }
 }
@@ -106,7 +150,12 @@ mod tests {
     };
 
     fn with(part: Answer<Part>) -> EntryShown {
-        EntryShown { entry: ENTRY, part }
+        let no_header = Refusal::alone(Refusal::SIGNATURE);
+        EntryShown {
+            entry: ENTRY,
+            part,
+            version: part.ok().map(|_| Err(no_header)),
+        }
     }
 
     #[test]
@@ -118,16 +167,35 @@ mod tests {
         assert_eq!(with(Ok(part)).ending(), Ending::Done);
         let value = with(Err(Refusal::alone(Refusal::VALUE)));
         assert_eq!(value.ending(), Ending::Done);
-        assert!(value.lines().contains("\n  value       0x1234\n  bytes "));
+        assert_eq!(value.value(), Some(0x1234));
+        let lines = "\n  value       0x1234\n  bytes       none: the entry holds the value\n";
+        assert!(value.lines().contains(lines), "{}", value.lines());
         assert!(!value.lines().contains("mode"), "{}", value.lines());
         for number in [Refusal::OUTSIDE, Refusal::MODE] {
             let refused = with(Err(Refusal::alone(number)));
             assert_eq!(refused.ending(), Ending::Refused);
+            assert_eq!(refused.value(), None);
             let told = format!("  bytes       refused {number}: ");
             assert!(refused.lines().contains(&told), "{}", refused.lines());
             assert!(refused
                 .lines()
                 .contains("  location    0x1234, mode 3: from "));
         }
+    }
+
+    #[test]
+    fn a_version_is_shown_where_there_are_bytes() {
+        let part = Part {
+            place: 0x1000,
+            length: 0x10,
+        };
+        let mut shown = with(Ok(part));
+        assert!(shown
+            .lines()
+            .ends_with("of the image\n  version     none: the bytes have no firmware header\n"));
+        shown.version = Some(Ok(0x0008_0174));
+        assert!(shown.lines().ends_with("\n  version     00.08.01.74\n"));
+        let refused = with(Err(Refusal::alone(Refusal::OUTSIDE)));
+        assert!(!refused.lines().contains("version"), "{}", refused.lines());
     }
 }

@@ -6,7 +6,7 @@ use std::ffi::OsStr;
 use std::os::unix::ffi::OsStrExt;
 
 /// The number of the form of answers for programs: it rises where a field goes away or means something else.
-pub const FORMAT: u64 = 1;
+pub const FORMAT: u64 = 2;
 
 /// The fields that an answer for programs begins with: the number of its form, and the file's name.
 pub fn first_fields(name: &OsStr) -> Fields {
@@ -37,11 +37,11 @@ mod tests {
         let fields = |name: &[u8]| Json::Object(first_fields(OsStr::from_bytes(name))).to_string();
         assert_eq!(
             fields(b"a.rom"),
-            "{\"format\": 1, \"file\": \"a.rom\", \"file_bytes\": null}"
+            "{\"format\": 2, \"file\": \"a.rom\", \"file_bytes\": null}"
         );
         assert_eq!(
             fields(b"\xe9.rom"),
-            "{\"format\": 1, \"file\": \"\u{fffd}.rom\", \"file_bytes\": \"e92e726f6d\"}"
+            "{\"format\": 2, \"file\": \"\u{fffd}.rom\", \"file_bytes\": \"e92e726f6d\"}"
         );
     }
 }

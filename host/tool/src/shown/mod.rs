@@ -2,6 +2,7 @@
 
 pub mod answer;
 pub mod boards;
+pub mod controls;
 pub mod csv;
 pub mod digits;
 pub mod entry;
@@ -12,3 +13,5 @@ pub mod names;
 pub mod page;
 pub mod refusals;
 pub mod repeats;
+pub mod shell;
+pub mod versions;

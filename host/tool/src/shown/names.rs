@@ -4,6 +4,7 @@ use crate::arguments::numbers;
 use crate::arguments::quoted::quoted;
 use std::ffi::OsStr;
 use std::os::unix::ffi::OsStrExt;
+use strsim::damerau_levenshtein;
 
 /// A type of entry that source 001 names.
 pub struct EntryType {
@@ -72,16 +73,36 @@ pub fn read_entry_type(word: &OsStr) -> Result<u8, String> {
     }
     match word.as_bytes().first() {
         Some(byte) if byte.is_ascii_digit() => numbers::number8("TYPE", word.as_bytes()),
-        _ => Err(format!(
-            "TYPE is {}, which is no entry type; write a number, or one of these names: {}",
-            quoted(word.as_bytes()),
-            ENTRY_TYPES
-                .iter()
-                .map(|known| known.name)
-                .collect::<Vec<_>>()
-                .join(", ")
-        )),
+        _ => Err(no_entry_type(word)),
     }
+}
+
+/// What is said of a word that is no TYPE: the name that was meant, where one is near, else all of them.
+fn no_entry_type(word: &OsStr) -> String {
+    let given = quoted(word.as_bytes());
+    match meant_by(word) {
+        Some(meant) => format!("there is no type {given}; did you mean '{}'?", meant.name),
+        None => {
+            let names: Vec<&str> = ENTRY_TYPES.iter().map(|known| known.name).collect();
+            format!(
+                "there is no type {given}; write a number, or one of these names: {}",
+                names.join(", ")
+            )
+        }
+    }
+}
+
+/// The type whose name a word misses by little, the nearest where there are several: of three letters at most one is left out,
+/// added, changed or swapped with the one beside it. Capital letters are no miss.
+fn meant_by(word: &OsStr) -> Option<&'static EntryType> {
+    let word = word.to_str()?.to_lowercase();
+    let most = word.chars().count() / 3;
+    let near = ENTRY_TYPES
+        .iter()
+        .map(|known| (damerau_levenshtein(&word, known.name), known))
+        .filter(|(misses, _)| *misses <= most);
+    near.min_by_key(|(misses, _)| *misses)
+        .map(|(_, known)| known)
 }
 
 /// The names of the entry types with their codes, as a help shows them: in columns, and with a line before them.
@@ -153,10 +174,34 @@ mod tests {
         for (word, code) in [("0", 0), ("0x1", 1), ("255", 255), ("0x40", 0x40)] {
             assert_eq!(read_entry_type(OsStr::new(word)), Ok(code));
         }
-        for word in ["", "256", "0x100", "0x", "-1", "boot", "Boot-Loader", "1a"] {
+        for word in ["256", "0x100", "0x", "1a"] {
             let message = read_entry_type(OsStr::new(word)).unwrap_err();
             assert!(message.starts_with("TYPE is "), "{message}");
             assert!(message.contains("; write "), "{message}");
+        }
+    }
+
+    #[test]
+    fn a_near_miss_of_a_name_is_told_the_name_that_was_meant() {
+        for (word, meant) in [
+            ("boot-lader", "boot-loader"),
+            ("bootloader", "boot-loader"),
+            ("boot_loader", "boot-loader"),
+            ("Boot-Loader", "boot-loader"),
+            ("boot-laoder", "boot-loader"),
+            ("recovery-bootloader", "recovery-boot-loader"),
+            ("secureos", "secure-os"),
+            ("smu-firmwre-2", "smu-firmware-2"),
+            ("trustlet", "trustlets"),
+        ] {
+            let message = read_entry_type(OsStr::new(word)).unwrap_err();
+            let due = format!("there is no type '{word}'; did you mean '{meant}'?");
+            assert_eq!(message, due);
+        }
+        for word in ["", "-1", "boot", "firmware", "os", "level-three", "\u{e9}"] {
+            let message = read_entry_type(OsStr::new(word)).unwrap_err();
+            let due = "; write a number, or one of these names: amd-public-key, ";
+            assert!(message.contains(due), "{word}: {message}");
         }
     }
 

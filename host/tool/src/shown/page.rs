@@ -1,6 +1,6 @@
 //! A page for people: lines and tables that fit its columns, coloured where that is wanted.
 
-use crate::system::folding::{folded_to, on_one_line};
+use crate::system::folding::{folded_to, kept, on_one_line};
 
 /// How a line looks on a terminal with colour. Without colour all look the same.
 #[derive(Clone, Copy, Debug, PartialEq, Eq)]
@@ -87,8 +87,40 @@ impl Page {
         fits
     }
 
+    /// A table whose lines are laid out by `line`, below its heads. Where a line has no room, each row is told cell by cell, every
+    /// cell that is not empty behind its head.
+    pub fn add_laid_out<const CELLS: usize>(
+        &mut self,
+        indent: usize,
+        heads: [&str; CELLS],
+        rows: &[[String; CELLS]],
+        line: fn(&[String; CELLS]) -> String,
+    ) {
+        let first = [heads.map(String::from)];
+        let lines: Vec<String> = first.iter().chain(rows).map(line).collect();
+        if lines.iter().all(|line| self.has_room_for(indent, line)) {
+            for line in lines {
+                self.add_whole(Look::Plain, indent, &line);
+            }
+            return;
+        }
+        for row in rows {
+            let cells = heads.iter().zip(row).filter(|(_, cell)| !cell.is_empty());
+            let told: Vec<String> = cells.map(|(head, cell)| behind(head, cell)).collect();
+            self.add(Look::Plain, indent, 2, &told.join(", "));
+        }
+    }
+
     pub fn into_text(self) -> String {
         self.text
+    }
+}
+
+/// A cell behind its head. A cell of one word stays on the line of its head.
+fn behind(head: &str, cell: &str) -> String {
+    match cell.contains(' ') {
+        true => format!("{} {cell}", kept(head)),
+        false => kept(&format!("{head} {cell}")),
     }
 }
 
@@ -131,6 +163,26 @@ mod tests {
         page.add(Look::Bad, 2, 0, "no");
         page.add(Look::Plain, 2, 0, "yes");
         assert_eq!(page.into_text(), "  \x1b[31mno\x1b[0m\n  yes\n");
+    }
+
+    #[test]
+    fn a_table_with_a_layout_of_its_own_is_told_cell_by_cell_where_it_does_not_fit() {
+        let rows = [["1", "long words"], ["22", ""], ["333", "word"]];
+        let rows = rows.map(|row| row.map(String::from));
+        let line =
+            |[number, words]: &[String; 2]| format!("{number:>6} {words}").trim_end().to_string();
+        let shown = |columns| {
+            let mut page = Page::new(columns, false);
+            page.add_laid_out(1, ["number", "told"], &rows, line);
+            page.into_text()
+        };
+        let table = " number told\n      1 long words\n     22\n    333 word\n";
+        assert_eq!(shown(None), table);
+        assert_eq!(shown(Some(18)), table);
+        assert_eq!(
+            shown(Some(17)),
+            " number 1, told\n   long words\n number 22\n number 333,\n   told word\n"
+        );
     }
 
     #[test]

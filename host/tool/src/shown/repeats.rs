@@ -1,5 +1,6 @@
 //! The entries for which a directory is refused with 18, as the library names them.
 
+use crate::arguments::wanted_entry::WantedDirectory;
 use crate::shown::refusals;
 use crate::system::folding::{kept, on_one_line};
 use bindings::{repeated, Refusal, Repeat};
@@ -41,6 +42,14 @@ pub fn told(image: &[u8], refusal: Refusal) -> String {
         Some(format!("{told}; in level {level}, {both}"))
     });
     named.unwrap_or(told)
+}
+
+/// The same of a question about one directory. The library names the entries of a level, and none of a directory at a place.
+pub fn told_of(image: &[u8], directory: WantedDirectory, refusal: Refusal) -> String {
+    match directory {
+        WantedDirectory::Level(_) => told(image, refusal),
+        WantedDirectory::At(_) => refusals::told(refusal),
+    }
 }
 
 #[cfg(test)]

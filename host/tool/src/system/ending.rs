@@ -6,9 +6,11 @@ use std::io;
 /// How a run ends.
 #[derive(Clone, Copy, Debug, PartialEq, Eq)]
 pub enum Ending {
-    /// All was accepted and found. To `ask` a refusal of the library is an answer, so it ends so as well.
+    /// All was good and found. To `ask` a refusal of the library is an answer, so it ends so as well.
     Done,
-    /// Something was refused, or was not found.
+    /// A plain no: there is none, no boot loader was found, or answers differ.
+    No,
+    /// Something was refused.
     Refused,
     /// Some line was no call.
     BadLine,
@@ -23,15 +25,27 @@ impl Ending {
     pub fn status(self) -> u8 {
         match self {
             Ending::Done => 0,
-            Ending::Refused | Ending::BadLine => 1,
+            Ending::No | Ending::BadLine => 1,
             Ending::WrongWords => 2,
             Ending::NotReadOrWritten => 3,
+            Ending::Refused => 5,
         }
     }
 
-    /// How a run of two parts ends: as the one with the higher status.
+    /// How bad it is, beside other endings: a file that was not read, a refusal, a plain no, and all good.
+    fn weight(self) -> u8 {
+        match self {
+            Ending::Done => 0,
+            Ending::No | Ending::BadLine => 1,
+            Ending::Refused => 2,
+            Ending::NotReadOrWritten => 3,
+            Ending::WrongWords => 4,
+        }
+    }
+
+    /// How a run of two parts ends: as the worse of them.
     pub fn and(self, other: Ending) -> Ending {
-        match other.status() > self.status() {
+        match other.weight() > self.weight() {
             true => other,
             false => self,
         }
@@ -43,7 +57,7 @@ impl Ending {
             return Ending::Done;
         }
         say(&format!(
-            "kpalumere: the output cannot be written: {error}. Write it to a place that has room, \
+            "the output cannot be written: {error}. Write it to a place that has room, \
              and start again."
         ));
         Ending::NotReadOrWritten
@@ -56,8 +70,11 @@ mod tests {
 
     #[test]
     fn of_two_parts_the_worse_one_tells() {
-        let (done, refused) = (Ending::Done, Ending::Refused);
+        let (done, no, refused) = (Ending::Done, Ending::No, Ending::Refused);
         assert_eq!(done.and(done), done);
+        assert_eq!(done.and(no), no);
+        assert_eq!(no.and(refused), refused);
+        assert_eq!(refused.and(no), refused);
         assert_eq!(done.and(refused), refused);
         assert_eq!(refused.and(done), refused);
         let unread = Ending::NotReadOrWritten;

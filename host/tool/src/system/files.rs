@@ -2,7 +2,7 @@
 
 use crate::system::ending::Ending;
 use crate::system::messages::say;
-use crate::system::opening::open;
+use crate::system::opening::{open, Opened};
 use std::ffi::OsStr;
 use std::io::{self, Read};
 
@@ -13,13 +13,13 @@ pub const MOST: u64 = 64 << 20;
 pub fn read(name: &OsStr) -> Result<Vec<u8>, String> {
     match read_up_to(name, MOST + 1) {
         Ok(bytes) if bytes.len() as u64 > MOST => Err(format!(
-            "kpalumere: {} has more than {MOST} bytes, and no image is as long. \
+            "{} has more than {MOST} bytes, and no image is as long. \
              Name the image itself, or cut it out of this file.",
             shown_name(name)
         )),
         Ok(bytes) => Ok(bytes),
         Err(error) => Err(format!(
-            "kpalumere: {} cannot be read: {error}. Name a file that is there and can be read, \
+            "{} cannot be read: {error}. Name a file that is there and can be read, \
              or - for standard input.",
             shown_name(name)
         )),
@@ -44,10 +44,14 @@ pub fn read_up_to(name: &OsStr, most: u64) -> io::Result<Vec<u8>> {
         io::stdin().lock().take(most).read_to_end(&mut bytes)?;
         return Ok(bytes);
     }
-    let file = open(name)?;
+    let opened = open(name)?;
     // Room for the whole file at once, where the system tells its length.
-    bytes.reserve_exact(file.length().min(most) as usize + 1);
-    file.take(most).read_to_end(&mut bytes)?;
+    bytes.reserve_exact(opened.length().min(most) as usize + 1);
+    match opened {
+        // The system's own file fills room that nobody has cleared; what reads through ours would have it cleared first.
+        Opened::File(file) => file.take(most).read_to_end(&mut bytes)?,
+        pipe => pipe.take(most).read_to_end(&mut bytes)?,
+    };
     Ok(bytes)
 }
 
@@ -72,7 +76,7 @@ mod tests {
     fn a_file_that_cannot_be_read_is_told_with_what_to_do() {
         for name in ["there/is/no/such.rom", "/"] {
             let message = read(OsStr::new(name)).unwrap_err();
-            let begins = format!("kpalumere: {name:?} cannot be read: ");
+            let begins = format!("{name:?} cannot be read: ");
             assert!(message.starts_with(&begins), "{message}");
             assert!(message.contains("Name a file"), "{message}");
         }

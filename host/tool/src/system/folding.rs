@@ -42,9 +42,44 @@ pub fn folded_to(text: &str, columns_of: impl Fn(usize) -> usize) -> Vec<String>
     lines
 }
 
+/// A row of a list in lines of so many columns: a form, and from a column on what it is for, on as many lines as that needs. A form
+/// that reaches to the column has a line of its own.
+pub fn row(form: &str, says: &str, column: usize, columns: usize) -> String {
+    let mut text = String::new();
+    let mut before = form.trim_end();
+    if before.len() >= column {
+        text.push_str(&format!("{before}\n"));
+        before = "";
+    }
+    for line in folded(says, columns - column) {
+        text.push_str(&format!("{before:<column$}{line}\n"));
+        before = "";
+    }
+    text
+}
+
 #[cfg(test)]
 mod tests {
     use super::*;
+
+    #[test]
+    fn a_row_fits_and_its_words_stand_below_each_other() {
+        assert_eq!(row("  a B ", "does it", 8, 80), "  a B   does it\n");
+        assert_eq!(
+            row("  a LONG", "does it", 8, 80),
+            "  a LONG\n        does it\n"
+        );
+        let long = row("  a", &"word ".repeat(12), 40, 80);
+        let lines: Vec<&str> = long.lines().collect();
+        assert_eq!(
+            lines[0],
+            format!("{:<40}{}", "  a", "word ".repeat(8).trim_end())
+        );
+        assert_eq!(
+            lines[1],
+            format!("{:40}{}", "", "word ".repeat(4).trim_end())
+        );
+    }
 
     #[test]
     fn lines_are_as_long_as_they_may_be_and_no_word_is_broken() {

@@ -5,6 +5,7 @@ pub mod files;
 pub mod folding;
 pub mod messages;
 pub mod new_file;
+pub mod new_folder;
 pub mod opening;
 pub mod output;
 pub mod progress;

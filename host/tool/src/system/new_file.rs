@@ -16,14 +16,14 @@ pub fn write(file: &OsStr, bytes: &[u8], force: bool, read: &OsStr, told: &str) 
     match written(file, bytes, force, read) {
         Ok(()) => print(told),
         Err(message) => {
-            say(&format!("kpalumere: {message}"));
+            say(&message);
             Ending::NotReadOrWritten
         }
     }
 }
 
 /// Writes the file. The error is the message to show: what is wrong, and what to do.
-fn written(file: &OsStr, bytes: &[u8], force: bool, read: &OsStr) -> Result<(), String> {
+pub fn written(file: &OsStr, bytes: &[u8], force: bool, read: &OsStr) -> Result<(), String> {
     let name = quoted_name(file);
     if read != "-" && are_one_file(file, read) {
         return Err(format!(

@@ -2,50 +2,56 @@
 //!
 //! What is answered, here as in `ask`, comes from the library. This command keeps the answers beside the calls and names them.
 
+mod for_programs;
 mod names;
-mod recording;
 mod report;
 
 use crate::arguments::command::{Command, Job, WRONG_WORDS};
-use crate::arguments::quoted::quoted;
+use crate::arguments::words::{file_or_input, json, required, JSON};
+use crate::language::recording::{Recording, WrongLine};
+use crate::shown::first_fields::first_fields;
 use crate::shown::forms;
+use crate::shown::json::Json;
 use crate::system::ending::Ending;
 use crate::system::files::{read_up_to, shown_name, MOST};
 use crate::system::messages::say;
 use crate::system::output::print;
-use recording::{Recording, WrongLine};
+use crate::system::terminal;
+use clap::ArgMatches;
 use std::ffi::{OsStr, OsString};
 use std::io;
-use std::os::unix::ffi::OsStrExt;
 
 pub static COMMAND: Command = Command {
     name: "mailbox",
-    words: "[FILE]",
-    does: "play a recording of the mailbox: what each caller asked, and what it was answered",
+    does: "play a recording of the mailbox, caller by caller",
+    words: |command| {
+        command
+            .arg(file_or_input(
+                "FILE",
+                "a recording; standard input where it is - or is not given",
+            ))
+            .arg(json())
+    },
     help: || HELP.to_string(),
     statuses: &[
         (0, "every line was a call and none was refused"),
-        (
-            1,
-            "a line was no call (it is left out) or a call was refused",
-        ),
+        (1, "a line was no call; it is left out"),
         WRONG_WORDS,
         (
             3,
             "the recording cannot be read or is too long, or the output not written",
         ),
+        (5, "a call was refused"),
     ],
     read: read_words,
 };
 
-/// What `mailbox --help` prints.
+/// What `mailbox --help` says.
 const HELP: &str = "\
-kpalumere mailbox [FILE]: plays a recording of the mailbox and shows, for each
-caller, what it asked and what it was answered.
-
 A recording is a file of calls as `kpalumere ask` reads them, a line a call; #
-starts a comment. It is read from FILE, or from standard input where FILE is -
-or is not given, and has at most 67108864 bytes. These calls may stand in it:
+starts a comment. It has at most 67108864 bytes. What stands behind => on a line
+is an answer that somebody saw, which `kpalumere check` compares; here it is left
+out. These calls may stand in a recording:
   post CALLER COMMAND DATA          a caller's post joins the line
   load                              the oldest post enters the register
   turn                              it is answered there
@@ -69,28 +75,14 @@ Try it:
 ";
 
 /// Reads the words after `mailbox`.
-fn read_words(words: &[OsString]) -> Result<Job, String> {
-    match words {
-        [] => Ok(Box::new(|| run(OsStr::new("-")))),
-        [option] if option != "-" && option.as_bytes().starts_with(b"-") => Err(format!(
-            "mailbox has no option {}. Name a recording, or none to read \
-             standard input; `kpalumere mailbox --help` says what a recording is.",
-            quoted(option.as_bytes())
-        )),
-        [name] => {
-            let file = name.clone();
-            Ok(Box::new(move || run(&file)))
-        }
-        more => Err(format!(
-            "mailbox plays one recording, and {} words are given. Join the files, as in \
-             `cat A B | kpalumere mailbox`; `kpalumere mailbox --help` says more.",
-            more.len()
-        )),
-    }
+fn read_words(matches: &ArgMatches) -> Result<Job, String> {
+    let file: OsString = required(matches, "FILE");
+    let as_json = matches.get_flag(JSON);
+    Ok(Box::new(move || run(&file, as_json)))
 }
 
 /// Plays the recording of a file, or of standard input where the name is `-`.
-fn run(file: &OsStr) -> Ending {
+fn run(file: &OsStr, as_json: bool) -> Ending {
     let bytes = match read(file) {
         Ok(bytes) => bytes,
         Err(error) => {
@@ -102,7 +94,15 @@ fn run(file: &OsStr) -> Ending {
     for wrong in &recording.wrong {
         say(&left_out(file, wrong));
     }
-    print(&report::of(&recording)).and(ending(&recording))
+    let text = match as_json {
+        true => {
+            let mut fields = first_fields(file);
+            fields.extend(for_programs::fields(&recording));
+            format!("{}\n", Json::Object(fields))
+        }
+        false => report::of(&recording, terminal::columns()),
+    };
+    print(&text).and(ending(&recording))
 }
 
 /// The bytes of a recording, which is kept whole and so has a limit.
@@ -115,22 +115,18 @@ fn read(file: &OsStr) -> io::Result<Vec<u8>> {
     Ok(bytes)
 }
 
-/// How a run ends whose report is written.
+/// How a run ends whose report is written: as the worst of its lines.
 fn ending(recording: &Recording) -> Ending {
-    if !recording.wrong.is_empty() {
-        return Ending::BadLine;
-    }
-    match recording.refused() {
-        true => Ending::Refused,
-        false => Ending::Done,
-    }
+    let ended = |bad: bool, ending: Ending| if bad { ending } else { Ending::Done };
+    let lines = ended(!recording.wrong.is_empty(), Ending::BadLine);
+    lines.and(ended(recording.refused(), Ending::Refused))
 }
 
 /// The message for a recording that cannot be read.
 fn unread(file: &OsStr, error: &io::Error) -> String {
     let name = shown_name(file);
     format!(
-        "kpalumere: {name} cannot be read: {error}. Name a recording that can be read, as in \
+        "{name} cannot be read: {error}. Name a recording that can be read, as in \
          `kpalumere mailbox FILE`, or - to read standard input."
     )
 }
@@ -139,7 +135,7 @@ fn unread(file: &OsStr, error: &io::Error) -> String {
 fn left_out(file: &OsStr, wrong: &WrongLine) -> String {
     let WrongLine { line, reason } = wrong;
     let line = forms::line(&shown_name(file), line);
-    format!("kpalumere: {line}: {reason}. The line is left out.")
+    format!("{line}: {reason}. The line is left out.")
 }
 
 #[cfg(test)]
@@ -155,12 +151,13 @@ mod tests {
                 "post 0 0x81 0\nload\nturn\nturn\nunload\ntake 0\nfirmware\n",
                 0,
             ),
-            ("take 0\n", 1),
-            ("post 8 0 0\n", 1),
-            ("mailbox-of 8:0:0 idle -\nload\n", 1),
-            ("mailbox-of 8:0:0 idle -\nload\nmailbox\nload\n", 1),
+            ("take 0\n", 5),
+            ("post 8 0 0\n", 5),
+            ("mailbox-of 8:0:0 idle -\nload\n", 5),
+            ("mailbox-of 8:0:0 idle -\nload\nmailbox\nload\n", 5),
             ("mailbox-of 8:0:0 idle -\nfirmware\n", 0),
             ("loads\n", 1),
+            ("loads\ntake 0\nloads\n", 5),
         ] {
             let recording = Recording::play(script.as_bytes());
             assert_eq!(ending(&recording).status(), status, "{script}");
@@ -172,19 +169,19 @@ mod tests {
         let recording = Recording::play(b"load\nbuffer a 1\n");
         assert_eq!(
             left_out(OsStr::new("a.ask"), &recording.wrong[0]),
-            "kpalumere: \"a.ask\", line 2: 'buffer' is not a call on the mailbox; \
+            "\"a.ask\", line 2: 'buffer' is not a call on the mailbox; \
              `kpalumere mailbox --help` lists them. The line is left out."
         );
         let error = io::Error::from(io::ErrorKind::NotFound);
         let message = unread(OsStr::new("a.ask"), &error);
-        assert!(message.starts_with("kpalumere: \"a.ask\" cannot be read: "));
+        assert!(message.starts_with("\"a.ask\" cannot be read: "));
         let message = unread(OsStr::new("-"), &error);
-        assert!(message.starts_with("kpalumere: standard input cannot be read: "));
+        assert!(message.starts_with("standard input cannot be read: "));
     }
 
     #[test]
     fn a_file_that_is_not_there_ends_with_3() {
-        let ending = run(OsStr::new("there/is/no/such.ask"));
+        let ending = run(OsStr::new("there/is/no/such.ask"), false);
         assert_eq!(ending.status(), 3);
     }
 

@@ -11,7 +11,8 @@ pub fn command(code: u32) -> String {
     )
 }
 
-fn command_name(code: u32) -> Option<&'static str> {
+/// The name that source 000 gives a command, where it gives one.
+pub fn command_name(code: u32) -> Option<&'static str> {
     match code {
         0x80 => Some("DISABLE_ASP_PCIE_INTERFACE"),
         0x81 => Some("QUERY_ASP_PCIE_INTERFACE_STATUS"),
@@ -23,29 +24,41 @@ fn command_name(code: u32) -> Option<&'static str> {
     }
 }
 
-/// A word of the register as people read it: bit 31, the status in bits 30:26 and the data in bits 15:0.
+/// A response: the status in bits 30:26 of a word of the register, and the data in bits 15:0.
+pub struct Response {
+    pub status: u64,
+    pub data: u64,
+}
+
+/// The response that a word of the register is, where its bit 31 is set.
+pub fn response(word: u64) -> Option<Response> {
+    (word >> 31 & 1 == 1).then_some(Response {
+        status: word >> 26 & 31,
+        data: word & 0xFFFF,
+    })
+}
+
+/// A word of the register as people read it.
 pub fn word(word: u64) -> String {
-    let data = word & 0xFFFF;
-    match word >> 31 & 1 {
-        1 => format!(
-            "0x{word:08x}: {}, data {data:#06x}",
-            status(word >> 26 & 31)
+    match response(word) {
+        Some(Response { status, data }) => format!(
+            "0x{word:08x}: status {status:#x} {}, data {data:#06x}",
+            status_name(status).unwrap_or("unnamed status")
         ),
-        _ => format!("0x{word:08x}: no response, for bit 31 is not set"),
+        None => format!("0x{word:08x}: no response, for bit 31 is not set"),
     }
 }
 
-/// A status with the name that source 000 gives it, in words.
-fn status(code: u64) -> String {
-    let name = match code {
-        0 => "success",
-        1 => "invalid command",
-        2 => "invalid parameter",
-        3 => "invalid firmware state",
-        0x1F => "command failure",
-        _ => "unnamed status",
-    };
-    format!("status {code:#x} {name}")
+/// The name that source 000 gives a status, in words, where it gives one.
+pub fn status_name(code: u64) -> Option<&'static str> {
+    match code {
+        0 => Some("success"),
+        1 => Some("invalid command"),
+        2 => Some("invalid parameter"),
+        3 => Some("invalid firmware state"),
+        0x1F => Some("command failure"),
+        _ => None,
+    }
 }
 
 /// A refusal with the rule of document 01 that it is given for.

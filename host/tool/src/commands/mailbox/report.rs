@@ -1,13 +1,16 @@
 //! What is shown of a recording: a table for each caller, the steps of the register, the firmware in words.
 
 use super::names;
-use super::recording::{Asked, Part, Recording, Row, Step, Told};
-use bindings::{Firmware, Interrupt, Refusal};
+use crate::language::recording::{Asked, Outcome, Part, Recording, Row, Step, STEPS};
+use crate::shown::page::Page;
+use bindings::{Firmware, Interrupt};
 
-/// The report of a recording, for people.
-pub fn of(recording: &Recording) -> String {
-    let parts = recording.parts.iter().filter(|part| !part.untouched());
-    let told: Vec<String> = parts.map(part).collect();
+/// The report of a recording for people, in tables of so many columns, or as wide as they are where nothing limits them.
+pub fn of(recording: &Recording, columns: Option<usize>) -> String {
+    let told: Vec<String> = recording
+        .touched()
+        .map(|touched| part(touched, columns))
+        .collect();
     let mut text = match told.is_empty() {
         true => String::from("Nothing is asked of the mailbox.\n"),
         false => told.join("\n"),
@@ -23,7 +26,7 @@ pub fn of(recording: &Recording) -> String {
 }
 
 /// One mailbox and all that was asked of it.
-fn part(part: &Part) -> String {
+fn part(part: &Part, columns: Option<usize>) -> String {
     let mut text = match part.made {
         None => String::from("A fresh mailbox, from the start\n"),
         Some(made) if made.described => format!("The mailbox described on line {}\n", made.line),
@@ -31,13 +34,13 @@ fn part(part: &Part) -> String {
     };
     for (caller, rows) in &part.callers {
         text.push_str(&format!("\nCaller {caller}\n"));
-        text.push_str(&columns("line", "asked", "data", "answered"));
-        for asked in rows {
-            text.push_str(&row(part, *caller, asked));
-        }
+        let rows: Vec<_> = rows.iter().map(|row| cells(part, *caller, row)).collect();
+        let mut page = Page::new(columns, false);
+        page.add_laid_out(2, ["line", "asked", "data", "answered"], &rows, line);
+        text.push_str(&page.into_text());
     }
     text.push_str("\nThe register\n");
-    for (name, taken) in ["load", "turn", "unload"].iter().zip(&part.steps) {
+    for (name, taken) in STEPS.iter().zip(&part.steps) {
         text.push_str(&step(name, taken));
     }
     text.push_str("\nThe firmware at the end\n");
@@ -45,11 +48,12 @@ fn part(part: &Part) -> String {
     text
 }
 
-fn columns(line: &str, asked: &str, data: &str, answered: &str) -> String {
-    format!("  {line:>6}  {asked:<40}  {data:<6}  {answered}\n")
+/// A line of a caller's table.
+fn line([line, asked, data, answered]: &[String; 4]) -> String {
+    format!("{line:>6}  {asked:<40}  {data:<6}  {answered}")
 }
 
-fn row(part: &Part, caller: u32, row: &Row) -> String {
+fn cells(part: &Part, caller: u32, row: &Row) -> [String; 4] {
     let (asked, data) = match row.asked {
         Asked::Post { command, data } => (names::command(command), format!("{data:#06x}")),
         Asked::Take => (String::from("take"), String::new()),
@@ -58,21 +62,16 @@ fn row(part: &Part, caller: u32, row: &Row) -> String {
             String::new(),
         ),
     };
-    let answered = match row.answer {
-        Told::Refused(number) => names::refusal(number),
-        Told::Taken { line, word } => format!("{} (taken on line {line})", names::word(word)),
-        Told::Untaken => untaken(part, caller),
+    let answered = match part.outcome(caller, row) {
+        Outcome::Refused(number) => names::refusal(number),
+        Outcome::Taken { line, word } => format!("{} (taken on line {line})", names::word(word)),
+        Outcome::NotTaken(word) => format!("{} (answered, not taken)", names::word(word)),
+        Outcome::NotAnswered => String::from("not answered yet"),
+        Outcome::OutOfReach(number) => {
+            format!("out of reach; a take is {}", names::refusal(number))
+        }
     };
-    columns(&row.line.to_string(), &asked, &data, &answered)
-}
-
-/// What has become of a post that was not taken, by what the library would answer to a take.
-fn untaken(part: &Part, caller: u32) -> String {
-    match part.take_at_the_end(caller) {
-        Ok(word) => format!("{} (answered, not taken)", names::word(word)),
-        Err(refusal) if refusal.is(Refusal::EARLY) => String::from("not answered yet"),
-        Err(refusal) => format!("out of reach; a take is {}", names::refusal(refusal.number)),
-    }
+    [row.line.to_string(), asked, data, answered]
 }
 
 fn step(name: &str, step: &Step) -> String {
@@ -123,7 +122,7 @@ mod tests {
     use super::*;
 
     fn report(script: &str) -> String {
-        of(&Recording::play(script.as_bytes()))
+        of(&Recording::play(script.as_bytes()), None)
     }
 
     #[test]
@@ -132,6 +131,19 @@ mod tests {
         let row = "       1  0x81 QUERY_ASP_PCIE_INTERFACE_STATUS      0xffff  \
                    0x80810001: status 0x0 success, data 0x0001 (taken on line 5)\n";
         assert!(text.contains(row), "{text}");
+    }
+
+    #[test]
+    fn a_table_that_is_too_wide_is_told_in_lines_that_fit() {
+        let script = "post 1 0x81 0xffff\nload\nturn\nunload\ntake 1\n";
+        let recording = Recording::play(script.as_bytes());
+        assert_eq!(of(&recording, Some(200)), report(script));
+        let narrow = of(&recording, Some(60));
+        assert!(narrow.lines().all(|line| line.len() <= 60), "{narrow}");
+        let told = "line 1, asked 0x81 QUERY_ASP_PCIE_INTERFACE_STATUS, data 0xffff, answered \
+                    0x80810001: status 0x0 success, data 0x0001 (taken on line 5)";
+        let together = narrow.split_whitespace().collect::<Vec<_>>().join(" ");
+        assert!(together.contains(told), "{narrow}");
     }
 
     #[test]

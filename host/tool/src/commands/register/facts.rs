@@ -1,17 +1,24 @@
 //! What the library says of one image: the answers that a register shows, and no others.
 
+use crate::shown::entry::EntryShown;
 use crate::shown::repeats;
 use bindings::{
-    directory, efs, find_image, pointer, version, view_entry, view_part, Answer, Directory, Efs,
-    Entry, ImageMatch, Part, Pointer, Refusal, Repeat,
+    directories, directory, efs, find_image, pointer, version, view_entries, Answer, Directory,
+    Efs, Entered, EntryRow, ImageMatch, Part, Pointer, Refusal, Repeat, Words,
 };
 
 /// The entry types that every register is asked for, by the lookup in the whole image and with subprogram 0. The first is
 /// the one without which no machine starts.
-pub const ASKED: [u8; 5] = [BOOT_LOADER, 0x03, 0x02, 0x08, 0x12];
+pub const ASKED: [u8; 5] = [BOOT_LOADER, RECOVERY, SECURE_OS, SMU_FIRMWARE, 0x12];
 
-/// The type of the boot loader.
-const BOOT_LOADER: u8 = 0x01;
+/// The types of the boot loader, of the recovery boot loader, of the secure OS and of the SMU firmware.
+pub const BOOT_LOADER: u8 = 0x01;
+pub const RECOVERY: u8 = 0x03;
+pub const SECURE_OS: u8 = 0x02;
+pub const SMU_FIRMWARE: u8 = 0x08;
+
+/// The type of an entry of level one that leads to level two.
+const LEAD: u64 = 0x40;
 
 /// What the library says of one image.
 pub struct Facts {
@@ -19,133 +26,144 @@ pub struct Facts {
     pub length: usize,
     pub efs: Answer<Efs>,
     pub pointer: Answer<Pointer>,
-    /// The directories of level one and level two.
-    pub levels: [Level; 2],
+    /// The first fault that the walk through all directories meets, where it meets one.
+    pub fault: Option<Refusal>,
+    /// All directories that the walk enters, in its order. Where it meets a fault, level one and the level two of the lowest
+    /// lead, as far as they are reached: calls of their own answer on these.
+    pub directories: Vec<Listed>,
     /// One for each of [`ASKED`].
     pub asked: Vec<Asked>,
 }
 
 /// A directory with its entries.
-pub struct Level {
+pub struct Listed {
     pub level: u32,
+    /// The index of the entry of level one that leads there; none of level one itself.
+    pub lead: Option<u64>,
     pub directory: Answer<Directory>,
     /// The entries that repeat, where the directory is refused for that.
     pub repeat: Option<Repeat>,
     /// Every entry, in order; none where the directory is refused.
-    pub entries: Vec<Row>,
-}
-
-/// An entry and what belongs to it.
-pub struct Row {
-    pub entry: Entry,
-    /// Where its bytes lie.
-    pub part: Answer<Part>,
-    /// The version that its bytes carry, where it has bytes.
-    pub version: Option<Answer<u64>>,
+    pub entries: Vec<EntryShown>,
 }
 
 /// A question for firmware, and its answer.
 pub struct Asked {
     pub class: u8,
-    pub answer: Answer<ImageMatch>,
-    /// The entry that was found.
-    pub row: Option<Row>,
+    pub answer: Answer<Found>,
 }
 
-/// Where a refusal was met.
-#[derive(Clone, Copy, Debug, PartialEq, Eq)]
-pub enum Met {
-    /// The image's length, which every call looks at first.
-    Length,
-    Efs,
-    Pointers,
-    LevelOne,
-    LevelTwo,
-    /// A question for firmware of a type.
-    Question(u8),
-}
-
-impl Row {
-    /// The version that the entry's bytes carry, as source 001 writes it: 00.08.01.74.
-    pub fn version_words(&self) -> Option<String> {
-        let version = self.version?.ok()?;
-        let parts = [24, 16, 8, 0].map(|bits| format!("{:02x}", version >> bits & 0xFF));
-        Some(parts.join("."))
-    }
+/// The entry that answers a question, and where it stands.
+#[derive(Clone, Copy)]
+pub struct Found {
+    pub at: ImageMatch,
+    pub row: EntryShown,
 }
 
 impl Facts {
-    /// Asks the library all that a register shows of an image.
-    pub fn of(image: &[u8]) -> Facts {
+    /// Asks the library all that a register shows of an image. The words are lent to the library for the entries of one
+    /// directory after another.
+    pub fn of(image: &[u8], words: &mut Words) -> Facts {
+        let walked = directories(image);
+        let fault = walked.as_ref().err().copied();
+        let directories = match walked {
+            Ok(entered) => entered
+                .iter()
+                .map(|entered| Listed::entered(image, entered, words))
+                .collect(),
+            Err(_) => listed_before_a_fault(image, words),
+        };
+        let asked = ASKED.iter();
+        let asked = asked.map(|class| Asked::of(image, *class, &directories));
         Facts {
             length: image.len(),
             efs: efs(image),
             pointer: pointer(image),
-            levels: [Level::of(image, 1), Level::of(image, 2)],
-            asked: ASKED.iter().map(|class| Asked::of(image, *class)).collect(),
+            fault,
+            asked: asked.collect(),
+            directories,
         }
     }
 
-    /// Why the image is refused, and where that was met: the first refusal on the way to level one, of level two, or of a
-    /// question. Of the last two, one that is not there refuses nothing.
-    pub fn refusal(&self) -> Option<(Refusal, Met)> {
-        let [one, two] = &self.levels;
-        let length = self.efs.err().filter(|refusal| refusal.is(Refusal::IMAGE));
-        let way = [
-            (length, Met::Length),
-            (self.efs.err(), Met::Efs),
-            (self.pointer.err(), Met::Pointers),
-            (one.directory.err(), Met::LevelOne),
-        ];
-        let asked = self.asked.iter();
-        let asked = asked.map(|asked| (asked.answer.err(), Met::Question(asked.class)));
-        let below = std::iter::once((two.directory.err(), Met::LevelTwo)).chain(asked);
-        let below = below
-            .filter(|(refusal, _)| refusal.map_or(false, |refusal| !refusal.is(Refusal::ABSENT)));
-        way.into_iter()
-            .chain(below)
-            .find_map(|(refusal, met)| Some((refusal?, met)))
+    /// The directory of level one.
+    pub fn level_one(&self) -> &Listed {
+        &self.directories[0]
     }
 
-    /// Whether the boot loader was found.
-    pub fn has_boot_loader(&self) -> bool {
-        self.asked
-            .iter()
-            .any(|asked| asked.class == BOOT_LOADER && asked.answer.is_ok())
+    /// The indices of the entries of level one that lead to level two.
+    pub fn leads(&self) -> Vec<u64> {
+        lead_indices(&self.level_one().entries).collect()
+    }
+
+    /// The answer to the question for a type that every register is asked for.
+    pub fn answer(&self, class: u8) -> Option<&Answer<Found>> {
+        let asked = self.asked.iter().find(|asked| asked.class == class);
+        asked.map(|asked| &asked.answer)
+    }
+
+    /// The directory listed before this one that is the same: two entries may lead to one place.
+    pub fn listed_before(&self, listed: &Listed) -> Option<&Listed> {
+        let place = listed.directory.ok()?.place;
+        let before = self.directories.iter();
+        before
+            .take_while(|other| !std::ptr::eq(*other, listed))
+            .find(|other| other.is_at(place))
     }
 }
 
-impl Level {
-    fn of(image: &[u8], level: u32) -> Level {
-        let directory = directory(image, level);
-        let rows = |found: Directory| {
-            (0..found.total)
-                .map_while(|index| Row::of(image, found.place, index).ok())
-                .collect()
-        };
-        Level {
+/// Level one, and where that is good and leads anywhere, the level two of its lowest lead.
+fn listed_before_a_fault(image: &[u8], words: &mut Words) -> Vec<Listed> {
+    let one = Listed::of(image, 1, None, directory(image, 1), words);
+    let lowest = lead_indices(&one.entries).next();
+    let two = lowest.map(|lead| Listed::of(image, 2, Some(lead), directory(image, 2), words));
+    std::iter::once(one).chain(two).collect()
+}
+
+fn lead_indices(entries: &[EntryShown]) -> impl Iterator<Item = u64> + '_ {
+    let leads = (0..).zip(entries);
+    leads.filter_map(|(index, row)| (row.entry.class == LEAD).then_some(index))
+}
+
+impl Listed {
+    /// Whether it is a good directory that begins at a place.
+    fn is_at(&self, place: u64) -> bool {
+        self.directory.map_or(false, |found| found.place == place)
+    }
+
+    /// A directory that the walk has entered.
+    fn entered(image: &[u8], entered: &Entered, words: &mut Words) -> Listed {
+        let Entered { directory, lead } = *entered;
+        let lead = (directory.level > 1).then_some(lead);
+        Listed::of(image, directory.level as u32, lead, Ok(directory), words)
+    }
+
+    fn of(
+        image: &[u8],
+        level: u32,
+        lead: Option<u64>,
+        directory: Answer<Directory>,
+        words: &mut Words,
+    ) -> Listed {
+        let rows = directory.and_then(|found| rows(image, found.place, words));
+        Listed {
             level,
+            lead,
             directory,
             repeat: repeats::in_level(image, level, directory.err()),
-            entries: directory.map_or_else(|_| Vec::new(), rows),
+            entries: rows.unwrap_or_default(),
         }
     }
 }
 
-impl Row {
-    /// An entry of the directory at a place. A view of the directory checks that directory alone at each call; the calls by
-    /// level would check the way to it as well.
-    fn of(image: &[u8], place: u64, index: u64) -> Answer<Row> {
-        let (place, index) = (place as usize, index as usize);
-        let entry = view_entry(image, place, index)?;
-        let part = view_part(image, place, index);
-        let version = part.ok().map(|part| version(bytes_of(image, part)));
-        Ok(Row {
-            entry,
-            part,
-            version,
-        })
-    }
+/// Every entry of the directory at a place, which is checked once for all of them.
+fn rows(image: &[u8], place: u64, words: &mut Words) -> Answer<Vec<EntryShown>> {
+    let entries = view_entries(image, place as usize, words)?;
+    let rows = entries.rows().map(|EntryRow { entry, part }| EntryShown {
+        entry,
+        part,
+        version: part.ok().map(|part| version(bytes_of(image, part))),
+    });
+    Ok(rows.collect())
 }
 
 /// The bytes that the library pointed out.
@@ -154,14 +172,24 @@ fn bytes_of(image: &[u8], part: Part) -> &[u8] {
 }
 
 impl Asked {
-    fn of(image: &[u8], class: u8) -> Asked {
-        let answer = find_image(image, class, 0);
-        let found = answer.ok();
-        Asked {
-            class,
-            answer,
-            row: found.and_then(|found| Row::of(image, found.place, found.index).ok()),
-        }
+    fn of(image: &[u8], class: u8, listed: &[Listed]) -> Asked {
+        let answer = find_image(image, class, 0).and_then(|at| {
+            let row = found_row(image, listed, at)?;
+            Ok(Found { at, row })
+        });
+        Asked { class, answer }
+    }
+}
+
+/// The entry that a lookup found: mostly one of the directories that are listed. Where a fault ends the walk, it may stand in one
+/// that is not.
+fn found_row(image: &[u8], listed: &[Listed], at: ImageMatch) -> Answer<EntryShown> {
+    let index = at.index as usize;
+    let is_there = |listed: &&Listed| listed.is_at(at.place);
+    let listed = listed.iter().find(is_there);
+    match listed.and_then(|listed| listed.entries.get(index)) {
+        Some(row) => Ok(*row),
+        None => EntryShown::of(image, at.place as usize, index),
     }
 }
 
@@ -171,62 +199,69 @@ mod tests {
     use super::*;
 
     fn facts() -> Facts {
-        Facts::of(&sample::board().expect("the sample can be made"))
+        let board = sample::board().expect("the sample can be made");
+        Facts::of(&board, &mut Words::new())
     }
 
     #[test]
-    fn the_first_refusal_tells_and_what_is_absent_below_level_one_does_not() {
-        let no = |number: u64| Refusal::alone(number);
-        let mut facts = facts();
-        assert_eq!(facts.refusal(), None);
-        facts.asked[4].answer = Err(no(Refusal::MODE));
-        assert_eq!(
-            facts.refusal(),
-            Some((no(Refusal::MODE), Met::Question(0x12)))
-        );
-        facts.asked[0].answer = Err(no(Refusal::OUTSIDE));
-        assert_eq!(
-            facts.refusal(),
-            Some((no(Refusal::OUTSIDE), Met::Question(0x01)))
-        );
-        facts.asked[0].answer = Err(no(Refusal::ABSENT));
-        assert_eq!(
-            facts.refusal(),
-            Some((no(Refusal::MODE), Met::Question(0x12)))
-        );
-        assert!(!facts.has_boot_loader());
-        facts.levels[1].directory = Err(no(Refusal::ABSENT));
-        assert_eq!(
-            facts.refusal(),
-            Some((no(Refusal::MODE), Met::Question(0x12)))
-        );
-        facts.levels[1].directory = Err(no(Refusal::MISPLACED));
-        assert_eq!(
-            facts.refusal(),
-            Some((no(Refusal::MISPLACED), Met::LevelTwo))
-        );
-        facts.levels[0].directory = Err(no(Refusal::CHECKSUM));
-        assert_eq!(
-            facts.refusal(),
-            Some((no(Refusal::CHECKSUM), Met::LevelOne))
-        );
-        facts.pointer = Err(no(Refusal::ABSENT));
-        assert_eq!(facts.refusal(), Some((no(Refusal::ABSENT), Met::Pointers)));
-        facts.efs = Err(no(Refusal::SIGNATURE));
-        assert_eq!(facts.refusal(), Some((no(Refusal::SIGNATURE), Met::Efs)));
-        facts.efs = Err(no(Refusal::IMAGE));
-        assert_eq!(facts.refusal(), Some((no(Refusal::IMAGE), Met::Length)));
+    fn every_directory_is_listed_with_its_entries_and_its_lead() {
+        let facts = facts();
+        let listed = facts.directories.iter();
+        let listed: Vec<(u32, Option<u64>, usize)> = listed
+            .map(|listed| (listed.level, listed.lead, listed.entries.len()))
+            .collect();
+        assert_eq!(listed, [(1, None, 5), (2, Some(3), 6)]);
+        assert_eq!(facts.leads(), [3]);
+        assert_eq!(facts.fault, None);
     }
 
     #[test]
-    fn a_version_is_written_as_source_001_writes_it() {
-        let mut row = Row::of(&sample::board().unwrap(), 0x2_8000, 0).unwrap();
+    fn what_a_question_finds_is_the_entry_that_is_listed() {
+        let facts = facts();
+        for asked in &facts.asked[..4] {
+            let found = asked.answer.expect("the sample has it");
+            let listed = &facts.directories[found.at.level as usize - 1];
+            let row = listed.entries[found.at.index as usize];
+            assert_eq!(
+                (found.row.entry, found.row.part, found.row.version),
+                (row.entry, row.part, row.version)
+            );
+        }
+    }
+
+    #[test]
+    fn what_a_question_finds_is_told_where_its_directory_is_not_listed() {
+        let board = sample::board().unwrap();
+        let at = find_image(&board, BOOT_LOADER, 0).unwrap();
+        let row = found_row(&board, &[], at).unwrap();
         assert_eq!(row.version_words(), Some(String::from("00.08.01.74")));
-        row.version = Some(Ok(0xABCD_0F01));
-        assert_eq!(row.version_words(), Some(String::from("ab.cd.0f.01")));
-        row.version = Some(Err(Refusal::alone(Refusal::SIGNATURE)));
-        assert_eq!(row.version_words(), None);
-        row.version = None;
-        assert_eq!(row.version_words(), None);
+    }
+
+    #[test]
+    fn with_a_fault_level_one_is_listed_and_level_two_where_it_is_reached() {
+        let mut board = sample::board().unwrap();
+        let [one, two] = [0x2_1000, 0x2_8000];
+        let listed = |board: &[u8]| {
+            let facts = Facts::of(board, &mut Words::new());
+            let listed = facts.directories.into_iter();
+            let listed = listed.map(|listed| listed.directory.err().map(|no| no.number));
+            let listed: Vec<Option<u64>> = listed.collect();
+            (facts.fault.map(|no| no.number), listed)
+        };
+        board[two + 16] ^= 0xFF;
+        assert_eq!(listed(&board), (Some(4), vec![None, Some(4)]));
+        board[one] = 0;
+        assert_eq!(listed(&board), (Some(2), vec![Some(2)]));
+        assert_eq!(listed(&[]), (Some(15), vec![Some(15)]));
+    }
+
+    #[test]
+    fn a_directory_at_the_place_of_an_earlier_one_is_the_same() {
+        let mut facts = facts();
+        assert!(facts.listed_before(&facts.directories[1]).is_none());
+        facts.directories[1].directory = facts.directories[0].directory;
+        let before = facts.listed_before(&facts.directories[1]);
+        assert_eq!(before.map(|listed| listed.level), Some(1));
+        assert!(facts.listed_before(&facts.directories[0]).is_none());
     }
 }

@@ -1,12 +1,15 @@
 //! The register for programs: JSON and CSV, in the forms of docs/REGISTER.md.
 
-use super::facts::{Asked, Facts, Level, Row};
-use super::outcome::{Outcome, Source, Summary};
+use super::facts::{Asked, Facts, Listed};
+use super::outcome::Outcome;
+use super::sources::Source;
+use super::summary::Summary;
+use super::verdict::Verdict;
 use crate::shown::csv;
 use crate::shown::entry::EntryShown;
 use crate::shown::first_fields::name_for_programs;
 pub use crate::shown::first_fields::FORMAT;
-use crate::shown::json::Json;
+use crate::shown::json::{Fields, Json};
 use crate::shown::names;
 use crate::shown::refusals;
 use bindings::{Answer, Repeat};
@@ -15,40 +18,44 @@ use bindings::{Answer, Repeat};
 
 /// An image.
 pub fn image(source: &Source, outcome: &Outcome) -> Json {
-    let (name, bytes) = name_of(source);
-    let facts = match outcome {
-        Outcome::Read(facts) => Some(facts),
-        Outcome::Unread(_) => None,
-    };
-    let message = match outcome {
-        Outcome::Read(_) => Json::Null,
-        Outcome::Unread(message) => Json::text(message),
-    };
-    let refusal = facts.and_then(Facts::refusal);
-    Json::Object(vec![
-        ("file", Json::or_null(name, Json::Text)),
-        ("file_bytes", Json::or_null(bytes, Json::Text)),
-        ("verdict", Json::text(outcome.verdict())),
+    let judgement = &outcome.judgement;
+    let facts = outcome.facts.as_ref().ok();
+    let message = outcome.facts.as_ref().err();
+    let directories = facts.map_or(Vec::new(), |facts| {
+        facts.directories.iter().map(directory).collect()
+    });
+    let questions = facts.map_or(Vec::new(), |facts| facts.asked.iter().map(asked).collect());
+    let mut fields = name_fields(source);
+    fields.extend([
+        ("verdict", Json::Text(judgement.verdict.for_programs())),
         (
             "refused",
-            Json::or_null(refusal, |(refusal, _)| Json::Number(refusal.number)),
+            Json::or_null(judgement.refusal, |refusal| Json::Number(refusal.number)),
         ),
-        ("message", message),
+        ("where", Json::or_null(judgement.met.as_ref(), Json::text)),
+        ("message", Json::or_null(message, Json::text)),
         (
             "length",
             Json::or_null(facts, |facts| Json::Number(facts.length as u64)),
         ),
         ("efs", Json::or_null(facts, efs)),
         ("pointer", Json::or_null(facts, pointer)),
-        (
-            "levels",
-            Json::List(facts.map_or(Vec::new(), |facts| facts.levels.iter().map(level).collect())),
-        ),
-        (
-            "asked",
-            Json::List(facts.map_or(Vec::new(), |facts| facts.asked.iter().map(asked).collect())),
-        ),
-    ])
+        ("directories", Json::List(directories)),
+        ("asked", Json::List(questions)),
+    ]);
+    Json::Object(fields)
+}
+
+/// A file's name: its text, and, where that is not the name itself, the name's bytes in hexadecimal digits. The sample has none.
+fn name_fields(source: &Source) -> Fields {
+    let (text, bytes) = match source.name().map(name_for_programs) {
+        Some((text, bytes)) => (Some(text), bytes),
+        None => (None, None),
+    };
+    vec![
+        ("file", Json::or_null(text, Json::Text)),
+        ("file_bytes", Json::or_null(bytes, Json::Text)),
+    ]
 }
 
 /// A field of what was given, or null where it was refused.
@@ -74,19 +81,31 @@ fn pointer(facts: &Facts) -> Json {
     ])
 }
 
-fn level(level: &Level) -> Json {
-    let rows = level.entries.iter().enumerate();
-    Json::Object(vec![
-        ("level", Json::Number(u64::from(level.level))),
-        ("place", field(level.directory, |found| found.place)),
-        ("total", field(level.directory, |found| found.total)),
-        ("refused", refusals::json(&level.directory)),
-        ("repeat", repeat(level.repeat)),
+fn directory(listed: &Listed) -> Json {
+    let rows = (0..).zip(&listed.entries);
+    let mut fields = vec![level_field(listed), lead_field(listed)];
+    fields.extend([
+        ("place", field(listed.directory, |found| found.place)),
+        ("total", field(listed.directory, |found| found.total)),
+        ("refused", refusals::json(&listed.directory)),
+        ("repeat", repeat(listed.repeat)),
         (
             "entries",
-            Json::List(rows.map(|(index, row)| entry(index, row)).collect()),
+            Json::List(
+                rows.map(|(index, row)| Json::Object(row.fields(index)))
+                    .collect(),
+            ),
         ),
-    ])
+    ]);
+    Json::Object(fields)
+}
+
+fn level_field(listed: &Listed) -> (&'static str, Json) {
+    ("level", Json::Number(u64::from(listed.level)))
+}
+
+fn lead_field(listed: &Listed) -> (&'static str, Json) {
+    ("lead", Json::or_null(listed.lead, Json::Number))
 }
 
 /// The entries that repeat, or nulls where none does.
@@ -100,31 +119,25 @@ fn repeat(repeat: Option<Repeat>) -> Json {
     ])
 }
 
-fn entry(index: usize, row: &Row) -> Json {
-    let shown = EntryShown {
-        entry: row.entry,
-        part: row.part,
-    };
-    let mut fields = shown.fields(index as u64);
-    fields.push(("version", version(Some(row))));
-    Json::Object(fields)
-}
-
 fn asked(asked: &Asked) -> Json {
     let tested = match asked.answer {
-        Ok(found) => Some(found.tested),
+        Ok(found) => Some(found.at.tested),
         Err(refusal) => refusal.tested,
     };
+    let version = asked
+        .answer
+        .ok()
+        .and_then(|found| found.row.version_words());
     Json::Object(vec![
         ("type", Json::Number(u64::from(asked.class))),
         ("name", name_of_type(u64::from(asked.class))),
         ("subprogram", Json::Number(0)),
-        ("level", field(asked.answer, |found| found.level)),
-        ("directory", field(asked.answer, |found| found.place)),
-        ("index", field(asked.answer, |found| found.index)),
+        ("level", field(asked.answer, |found| found.at.level)),
+        ("directory", field(asked.answer, |found| found.at.place)),
+        ("index", field(asked.answer, |found| found.at.index)),
         ("tested", Json::or_null(tested, Json::Number)),
         ("refused", refusals::json(&asked.answer)),
-        ("version", version(asked.row.as_ref())),
+        ("version", Json::or_null(version, Json::Text)),
     ])
 }
 
@@ -132,45 +145,33 @@ fn name_of_type(class: u64) -> Json {
     Json::or_null(names::entry_type(class), |known| Json::text(known.name))
 }
 
-fn version(row: Option<&Row>) -> Json {
-    Json::or_null(row.and_then(Row::version_words), Json::Text)
-}
-
-/// A file's name: its text, and, where that is not the name itself, the name's bytes in hexadecimal digits. The sample has none.
-fn name_of(source: &Source) -> (Option<String>, Option<String>) {
-    match source {
-        Source::Sample => (None, None),
-        Source::File(name) => {
-            let (text, bytes) = name_for_programs(name);
-            (Some(text), bytes)
-        }
-    }
-}
-
 /// What stands after the images.
 pub fn summary(summary: &Summary) -> Json {
+    let count = |verdict: Verdict| Json::Number(summary.of(verdict));
     Json::Object(vec![
         ("images", Json::Number(summary.images())),
-        ("accepted", Json::Number(summary.accepted)),
-        ("refused", Json::Number(summary.refused())),
-        ("unread", Json::Number(summary.unread)),
+        ("good", count(Verdict::Good)),
+        ("no_boot_loader", count(Verdict::NoBootLoader)),
         (
-            "without_boot_loader",
-            Json::Number(summary.without_boot_loader),
+            "boot_loader_without_bytes",
+            count(Verdict::BootLoaderWithoutBytes),
         ),
+        ("refused", count(Verdict::Refused)),
+        ("not_read", count(Verdict::NotRead)),
     ])
 }
 
 // ---- CSV: the same values, a row for each image, directory, entry and question
 
-/// The columns. A row fills those that its kind has, and leaves the others empty.
-const COLUMNS: [&str; 33] = [
+/// The columns. A row fills those that its sort has, and leaves the others empty.
+const COLUMNS: [&str; 36] = [
     "format",
     "row",
     "file",
     "file_bytes",
     "verdict",
     "refused",
+    "where",
     "message",
     "length",
     "efs_place",
@@ -182,6 +183,7 @@ const COLUMNS: [&str; 33] = [
     "pointer_place",
     "pointer_refused",
     "level",
+    "lead",
     "place",
     "total",
     "index",
@@ -191,6 +193,7 @@ const COLUMNS: [&str; 33] = [
     "size",
     "mode",
     "location",
+    "value",
     "directory",
     "tested",
     "version",
@@ -207,41 +210,48 @@ pub fn csv_head() -> String {
 
 /// The rows of an image.
 pub fn csv_rows(source: &Source, outcome: &Outcome) -> String {
-    let (name, bytes) = name_of(source);
-    let name = [
-        ("file", Json::or_null(name, Json::Text)),
-        ("file_bytes", Json::or_null(bytes, Json::Text)),
-    ];
-    let row = |kind: &str, level: Option<u32>, values: &Json| {
-        let mut cells = vec![
-            (String::from("format"), FORMAT.to_string()),
-            (String::from("row"), kind.to_string()),
-        ];
-        let level = Json::or_null(level, |level| Json::Number(u64::from(level)));
-        put_cells(&mut cells, "", &name);
-        put_cells(&mut cells, "", &[("level", level)]);
-        if let Json::Object(fields) = values {
-            put_cells(&mut cells, "", fields);
-        }
-        let cell = |column: &str| {
-            let found = cells.iter().find(|(name, _)| name == column);
-            found.map_or("", |(_, text)| text.as_str())
-        };
-        csv::line(COLUMNS.map(cell))
-    };
-    let mut rows = row("image", None, &image(source, outcome));
-    if let Outcome::Read(facts) = outcome {
-        for level in &facts.levels {
-            rows.push_str(&row("level", None, &self::level(level)));
-            for (index, of) in level.entries.iter().enumerate() {
-                rows.push_str(&row("entry", Some(level.level), &entry(index, of)));
+    let row = |name: &str, values: Json| csv_row(name, source, values);
+    let mut rows = row("image", image(source, outcome));
+    if let Ok(facts) = &outcome.facts {
+        for listed in &facts.directories {
+            rows.push_str(&row("directory", directory(listed)));
+            for (index, of) in (0..).zip(&listed.entries) {
+                rows.push_str(&row("entry", entry_in(listed, index, of)));
             }
         }
         for question in &facts.asked {
-            rows.push_str(&row("asked", None, &asked(question)));
+            rows.push_str(&row("asked", asked(question)));
         }
     }
     rows
+}
+
+/// An entry with the directory that it stands in, which JSON tells around it.
+fn entry_in(listed: &Listed, index: u64, row: &EntryShown) -> Json {
+    let place = field(listed.directory, |found| found.place);
+    let around = vec![
+        level_field(listed),
+        lead_field(listed),
+        ("directory", place),
+    ];
+    let fields = around.into_iter().chain(row.fields(index));
+    Json::Object(fields.collect())
+}
+
+/// A row: what every row begins with, and the values of its object.
+fn csv_row(name: &str, source: &Source, values: Json) -> String {
+    let mut cells = Vec::new();
+    let first = [("format", Json::Number(FORMAT)), ("row", Json::text(name))];
+    put_cells(&mut cells, "", &first);
+    put_cells(&mut cells, "", &name_fields(source));
+    if let Json::Object(fields) = values {
+        put_cells(&mut cells, "", &fields);
+    }
+    let cell = |column: &str| {
+        let found = cells.iter().find(|(name, _)| name == column);
+        found.map_or("", |(_, text)| text.as_str())
+    };
+    csv::line(COLUMNS.map(cell))
 }
 
 /// Adds the cells of fields that are not empty. A field in an object is named after both; a list has rows of its own.
@@ -263,6 +273,7 @@ fn put_cells(cells: &mut Vec<(String, String)>, before: &str, fields: &[(&'stati
 #[cfg(test)]
 mod tests {
     use super::*;
+    use bindings::Words;
     use std::ffi::OsString;
 
     /// Every name of a field, as a column has it.
@@ -280,7 +291,7 @@ mod tests {
 
     #[test]
     fn every_field_has_its_column_and_every_column_its_field() {
-        let outcome = Outcome::of(&Source::Sample);
+        let outcome = Outcome::of(&Source::Sample, &mut Words::new());
         let mut names = vec![String::from("format"), String::from("row")];
         names_in(&image(&Source::Sample, &outcome), "", &mut names);
         for name in &names {
@@ -294,12 +305,18 @@ mod tests {
     #[test]
     fn a_file_that_was_not_read_has_its_row_and_its_message() {
         let source = Source::File(OsString::from("there/is/no/such.rom"));
-        let outcome = Outcome::of(&source);
+        let outcome = Outcome::of(&source, &mut Words::new());
         let rows = csv_rows(&source, &outcome);
-        assert!(rows.starts_with("1,image,there/is/no/such.rom,,unread,,\"kpalumere: "));
+        assert!(
+            rows.starts_with(
+                "2,image,there/is/no/such.rom,,not-read,,,\"\"\"there/is/no/such.rom\"\" cannot "
+            ),
+            "{rows}"
+        );
         assert_eq!(rows.lines().count(), 1, "{rows}");
         let json = image(&source, &outcome).to_string();
-        assert!(json.contains("\"verdict\": \"unread\""), "{json}");
+        assert!(json.contains("\"verdict\": \"not-read\""), "{json}");
         assert!(json.contains("\"length\": null"), "{json}");
+        assert!(!json.contains("kpalumere"), "{json}");
     }
 }

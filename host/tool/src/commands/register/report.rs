@@ -1,70 +1,74 @@
 //! The register of an image for people: a table where the terminal is wide enough, else lines that fit it.
 
-use super::facts::{Asked, Facts, Level, Met, Row};
-use super::outcome::{Outcome, Source, Summary};
+use super::facts::{Asked, Facts, Found, Listed};
+use super::met::{led, of_a_later_lead};
+use super::outcome::Outcome;
+use super::sources::Source;
+use super::summary::Summary;
+use super::verdict::{told, Judgement, Verdict};
+use crate::shown::entry::EntryShown;
 use crate::shown::forms;
 use crate::shown::names;
 use crate::shown::page::{Look, Page};
-use crate::shown::refusals;
 use crate::shown::repeats;
 use crate::system::folding::kept;
 use bindings::Refusal;
 
 /// What is shown of an image.
 pub fn image(page: &mut Page, source: &Source, outcome: &Outcome) {
-    let name = source.shown();
-    let facts = match outcome {
-        Outcome::Unread(_) => {
-            page.add_whole(Look::Bad, 0, &format!("{name}: not read"));
-            return;
-        }
-        Outcome::Read(facts) => facts,
+    headline(page, source, &outcome.judgement);
+    let facts = match &outcome.facts {
+        Ok(facts) => facts,
+        Err(_) => return,
     };
-    let refusal = facts.refusal();
-    let (look, verdict) = match refusal {
-        None => (Look::Good, String::from("accepted")),
-        Some((refusal, met)) => {
-            let verdict = format!("{} ({})", told(refusal), met_words(met));
-            (Look::Bad, verdict)
-        }
-    };
-    // A name may have any characters, so it is not broken, and has a line of its own where both do not fit.
-    let line = format!("{name}: {verdict}");
+    let length = forms::bytes(facts.length as u64);
+    page.add(Look::Plain, 2, 2, &format!("length {length}"));
+    way(page, facts);
+    directories(page, facts);
+    if facts.level_one().directory.is_ok() {
+        questions(page, &facts.asked);
+    }
+    let hints = hints(source, &outcome.judgement);
+    if !hints.is_empty() {
+        page.gap();
+    }
+    for hint in hints {
+        page.add(Look::Plain, 2, 2, &hint);
+    }
+}
+
+/// The name and the verdict. A name may have any characters, so it is not broken, and has a line of its own where both do not fit.
+fn headline(page: &mut Page, source: &Source, judgement: &Judgement) {
+    let look = judgement.verdict.look();
+    let (name, words) = (source.shown(), judgement.words());
+    let line = format!("{name}: {words}");
     if page.has_room_for(0, &line) {
         page.add_whole(look, 0, &line);
     } else {
         page.add_whole(look, 0, &format!("{name}:"));
-        page.add(look, 2, 2, &verdict);
+        page.add(look, 2, 2, &words);
     }
-    page.add(
-        Look::Plain,
-        2,
-        2,
-        &format!("length {}", forms::bytes(facts.length as u64)),
-    );
-    way(page, facts);
-    for level in &facts.levels {
-        directory(page, facts, level);
-    }
-    if facts.levels[0].directory.is_ok() {
-        questions(page, &facts.asked);
-    }
-    let hint = match (refusal, source) {
-        (Some((refusal, _)), _) => {
+}
+
+/// What to do next.
+fn hints(source: &Source, judgement: &Judgement) -> Vec<String> {
+    match (judgement.refusal, judgement.verdict, source) {
+        (Some(refusal), ..) => {
             let command = kept(&format!("`kpalumere explain {}`", refusal.number));
-            format!("{command} says what usually causes this, and what to look at.")
+            let explain = format!("{command} says what usually causes this, and what to look at.");
+            let first = first_to_check(refusal).map(String::from);
+            first.into_iter().chain([explain]).collect()
         }
-        (None, Source::Sample) => {
+        (None, Verdict::NoBootLoader, _) => vec![String::from(
+            "No directory has an entry of type 0x01 with subprogram 0x00, and no machine starts \
+             without its boot loader.",
+        )],
+        (None, _, Source::Sample) => {
             let command = kept("`kpalumere register IMAGE`");
-            format!("{command} shows the same of an image of your own.")
+            vec![format!("{command} shows the same of an image of your own.")]
         }
-        (None, Source::File(_)) => return,
-    };
-    page.gap();
-    if let Some(first) = refusal.and_then(|(refusal, _)| first_to_check(refusal)) {
-        page.add(Look::Plain, 2, 2, first);
+        _ => Vec::new(),
     }
-    page.add(Look::Plain, 2, 2, &hint);
 }
 
 /// What to check before all else. A dump that is longer or shorter than its flash part is the usual cause of a signature or a
@@ -77,25 +81,6 @@ fn first_to_check(refusal: Refusal) -> Option<&'static str> {
         ),
         _ => None,
     }
-}
-
-fn met_words(met: Met) -> String {
-    match met {
-        Met::Length => String::from("length"),
-        Met::Efs => String::from("EFS"),
-        Met::Pointers => String::from("pointers"),
-        Met::LevelOne => forms::level(1),
-        Met::LevelTwo => forms::level(2),
-        Met::Question(class) => {
-            let words = names::entry_type_words(u64::from(class));
-            format!("lookup of the {words}")
-        }
-    }
-}
-
-/// A refusal, whose number stays on the line of the word before it.
-fn told(refusal: Refusal) -> String {
-    refusals::told(refusal).replacen("refused ", &kept("refused "), 1)
 }
 
 /// The way to level one: the EFS and its pointers.
@@ -129,51 +114,84 @@ fn way(page: &mut Page, facts: &Facts) {
     }
 }
 
-/// A directory and its entries, or why there is none to be shown.
-fn directory(page: &mut Page, facts: &Facts, level: &Level) {
-    let name = forms::level(level.level);
-    let (look, line) = match level.directory {
-        Ok(found) => (
-            Look::Heading,
-            format!(
-                "{}, {}",
-                forms::directory(found.level, found.place),
-                forms::entries(found.total)
-            ),
-        ),
-        // What stands before it was refused with the same number, and is shown so.
-        Err(_) if is_out_of_reach(facts, level) => (Look::Plain, format!("{name}: not reached")),
-        Err(refusal) if level.level == 2 && refusal.is(Refusal::ABSENT) => (
-            Look::Plain,
-            format!("{name}: none, for no entry of level 1 leads to it"),
-        ),
-        Err(refusal) => {
-            let named = level.repeat.map_or(String::new(), |repeat| {
-                format!("; {}", repeats::words(repeat))
-            });
-            let line = format!("{name}: {}{named}", told(refusal));
-            (Look::Bad, line)
+/// Every directory, and what is said of one that is not listed.
+fn directories(page: &mut Page, facts: &Facts) {
+    let is_parted = facts.level_one().directory.is_ok();
+    for listed in &facts.directories {
+        if is_parted {
+            page.gap();
         }
-    };
-    if facts.levels[0].directory.is_ok() {
-        page.gap();
+        directory(page, facts, listed);
     }
-    page.add(look, 2, 2, &line);
-    if !level.entries.is_empty() {
-        entries(page, &level.entries);
+    if let Some((look, line)) = not_listed(facts) {
+        if is_parted {
+            page.gap();
+        }
+        page.add(look, 2, 2, &line);
     }
 }
 
-/// Whether the way to a directory already ends before it.
-fn is_out_of_reach(facts: &Facts, level: &Level) -> bool {
-    match level.level {
-        1 => facts.pointer.is_err(),
-        _ => facts.levels[0].directory.is_err(),
+/// Why a level two is not listed, where one is not.
+fn not_listed(facts: &Facts) -> Option<(Look, String)> {
+    let two = forms::level(2);
+    if facts.level_one().directory.is_err() {
+        return Some((Look::Plain, format!("{two}: not reached")));
     }
+    match facts.directories.get(1) {
+        None => {
+            let line = format!("{two}: none, for no entry of level 1 leads to it");
+            Some((Look::Plain, line))
+        }
+        // The lowest lead's is good, so that a fault is a later one's.
+        Some(listed) if listed.directory.is_ok() => facts.fault.map(|fault| {
+            let line = format!("{}: {}", of_a_later_lead(facts), told(fault));
+            (Look::Bad, line)
+        }),
+        Some(_) => None,
+    }
+}
+
+/// A directory and its entries, or why there is none to be shown.
+fn directory(page: &mut Page, facts: &Facts, listed: &Listed) {
+    let found = match listed.directory {
+        Ok(found) => found,
+        Err(refusal) => {
+            let (look, words) = refused_words(facts, listed, refusal);
+            let line = format!("{}: {words}", forms::level(listed.level));
+            page.add(look, 2, 2, &line);
+            return;
+        }
+    };
+    let name = forms::directory(found.level, found.place);
+    let name = listed.lead.map_or(name.clone(), |lead| led(&name, lead));
+    if let Some(before) = facts.listed_before(listed) {
+        let before = before.lead.map_or(forms::level(1), |lead| {
+            format!("that of {}", kept(&format!("entry {lead}")))
+        });
+        let line = format!("{name}: the same directory as {before}, above");
+        page.add(Look::Heading, 2, 2, &line);
+        return;
+    }
+    let line = format!("{name}, {}", kept(&forms::entries(found.total)));
+    page.add(Look::Heading, 2, 2, &line);
+    if !listed.entries.is_empty() {
+        entries(page, &listed.entries);
+    }
+}
+
+/// Why a directory is not shown. One that the way does not reach was refused before, with the same number, and is shown so there.
+fn refused_words(facts: &Facts, listed: &Listed, refusal: Refusal) -> (Look, String) {
+    if listed.level == 1 && facts.pointer.is_err() {
+        return (Look::Plain, String::from("not reached"));
+    }
+    let repeat = listed.repeat.map_or(String::new(), |repeat| {
+        format!("; {}", repeats::words(repeat))
+    });
+    (Look::Bad, format!("{}{repeat}", told(refusal)))
 }
 
 /// The entries of a directory: a table, or lines for each.
-fn entries(page: &mut Page, rows: &[Row]) {
+fn entries(page: &mut Page, rows: &[EntryShown]) {
     let heads = [
         "index",
         "type",
@@ -185,61 +203,71 @@ fn entries(page: &mut Page, rows: &[Row]) {
         "version",
     ];
     let mut table = vec![(Look::Heading, heads.map(String::from).to_vec())];
-    table.extend(rows.iter().enumerate().map(|(index, row)| {
-        let entry = &row.entry;
-        let cells = [
-            index.to_string(),
-            names::numbered_type(entry.class),
-            format!("{:#04x}", entry.subprogram),
-            format!("{:#x}", entry.size),
-            format!("{:#x}", entry.location),
-            names::address_mode_words(entry.mode),
-            bytes_words(row),
-            row.version_words().unwrap_or_else(|| String::from("-")),
-        ];
-        (look_of(row), cells.to_vec())
-    }));
+    let cells = rows.iter().enumerate();
+    table.extend(cells.map(|(index, row)| (look_of(row), entry_cells(index, row))));
     if page.add_table(4, &table) {
         return;
     }
     for (index, row) in rows.iter().enumerate() {
-        let entry = &row.entry;
-        let first = format!(
-            "{} {} {}",
-            kept(&format!("{index}  {},", names::numbered_type(entry.class))),
-            kept(&format!("subprogram {:#04x},", entry.subprogram)),
-            kept(&format!("size {:#x}", entry.size))
-        );
-        let version = row.version_words();
-        let second = format!(
-            "{} {}; {}{}{}",
-            kept(&format!("location {:#x},", entry.location)),
-            kept(&names::address_mode_words(entry.mode)),
-            kept("bytes "),
-            bytes_words(row),
-            version.map_or(String::new(), |version| format!(
-                "; {}",
-                kept(&format!("version {version}"))
-            ))
-        );
+        let [first, second] = entry_lines(index, row);
         page.add(look_of(row), 4, 4, &first);
         page.add(look_of(row), 8, 0, &second);
     }
 }
 
+/// An entry in a table.
+fn entry_cells(index: usize, row: &EntryShown) -> Vec<String> {
+    let entry = &row.entry;
+    vec![
+        index.to_string(),
+        names::numbered_type(entry.class),
+        format!("{:#04x}", entry.subprogram),
+        format!("{:#x}", entry.size),
+        format!("{:#x}", entry.location),
+        names::address_mode_words(entry.mode),
+        bytes_words(row),
+        row.version_words().unwrap_or_else(|| String::from("-")),
+    ]
+}
+
+/// The same on two lines, each of which may need more than one.
+fn entry_lines(index: usize, row: &EntryShown) -> [String; 2] {
+    let entry = &row.entry;
+    let first = format!(
+        "{} {} {}",
+        kept(&format!("{index}  {},", names::numbered_type(entry.class))),
+        kept(&format!("subprogram {:#04x},", entry.subprogram)),
+        kept(&format!("size {:#x}", entry.size))
+    );
+    let bytes = match row.value() {
+        Some(_) => bytes_words(row),
+        None => format!("{}{}", kept("bytes "), bytes_words(row)),
+    };
+    let version = row.version_words().map_or(String::new(), |version| {
+        format!("; {}", kept(&format!("version {version}")))
+    });
+    let second = format!(
+        "{} {}; {bytes}{version}",
+        kept(&format!("location {:#x},", entry.location)),
+        kept(&names::address_mode_words(entry.mode)),
+    );
+    [first, second]
+}
+
 /// A value is no fault; any other entry without bytes is shown as one.
-fn look_of(row: &Row) -> Look {
-    match row.part {
-        Err(refusal) if !refusal.is(Refusal::VALUE) => Look::Bad,
-        _ => Look::Plain,
+fn look_of(row: &EntryShown) -> Look {
+    match row.part.is_ok() || row.value().is_some() {
+        true => Look::Plain,
+        false => Look::Bad,
     }
 }
 
-/// Where the bytes of an entry lie, or why it has none.
-fn bytes_words(row: &Row) -> String {
-    match row.part {
-        Ok(part) => kept(&forms::range(part)),
-        Err(refusal) => told(refusal),
+/// Where the bytes of an entry lie, the value that it holds in their place, or why it has none.
+fn bytes_words(row: &EntryShown) -> String {
+    match (row.part, row.value()) {
+        (Ok(part), _) => kept(&forms::range(part)),
+        (Err(_), Some(value)) => kept(&format!("value {value:#x}")),
+        (Err(refusal), None) => told(refusal),
     }
 }
 
@@ -266,16 +294,15 @@ fn questions(page: &mut Page, asked: &[Asked]) {
 
 fn answer_words(asked: &Asked) -> (Look, String) {
     match asked.answer {
-        Ok(found) => {
-            let directory = forms::directory(found.level, found.place);
-            let version = asked.row.as_ref().and_then(Row::version_words);
-            let version = version.map_or(String::new(), |version| {
+        Ok(Found { at, row }) => {
+            let directory = forms::directory(at.level, at.place);
+            let version = row.version_words().map_or(String::new(), |version| {
                 format!(", {}", kept(&format!("version {version}")))
             });
             let line = format!(
                 "{}{version} {}",
-                kept(&forms::entry(found.index, &directory)),
-                tested_words(found.tested)
+                kept(&forms::entry(at.index, &directory)),
+                tested_words(at.tested)
             );
             (Look::Plain, line)
         }
@@ -292,25 +319,33 @@ fn tested_words(count: u64) -> String {
 
 /// The line over all images.
 pub fn summary(page: &mut Page, summary: &Summary) {
-    let mut refused = summary.refused().to_string() + " refused";
-    let by: Vec<String> = summary
-        .refused_by
-        .iter()
-        .map(|(number, count)| format!("{count} by {number}"))
+    let counts: Vec<String> = Verdict::ALL
+        .into_iter()
+        .map(|verdict| {
+            let by = match verdict {
+                Verdict::Refused => refused_by(summary),
+                _ => String::new(),
+            };
+            let count = format!("{} {}", summary.of(verdict), verdict.words());
+            kept(&count) + &by
+        })
         .collect();
-    if !by.is_empty() {
-        refused.push_str(&format!(" ({})", by.join(", ")));
-    }
-    let line = format!(
-        "{}: {} accepted, {refused}, {} not read; {} accepted without a boot loader",
-        forms::counted(summary.images(), "image", "images"),
-        summary.accepted,
-        summary.unread,
-        summary.without_boot_loader
-    );
-    let look = match summary.is_good() {
+    let images = forms::counted(summary.images(), "image", "images");
+    let look = match summary.all_good() {
         true => Look::Good,
         false => Look::Bad,
     };
-    page.add(look, 0, 2, &line);
+    page.add(look, 0, 2, &format!("{images}: {}", counts.join(", ")));
+}
+
+/// How many images were refused by each number.
+fn refused_by(summary: &Summary) -> String {
+    let by = summary.refused_by.iter();
+    let by: Vec<String> = by
+        .map(|(number, count)| kept(&format!("{count} by {number}")))
+        .collect();
+    match by.is_empty() {
+        true => String::new(),
+        false => format!(" ({})", by.join(", ")),
+    }
 }

@@ -1,12 +1,13 @@
 //! A recording, played: the calls of each mailbox in it, each with the library's answer.
 
+use super::recorded;
 use crate::arguments::lines::{words_of, BadLine};
 use crate::arguments::mailbox_calls::{asked_caller, asked_post, description, Description, FORMS};
 use crate::arguments::quoted::quoted;
-use bindings::{Answer, Firmware, Mailbox, Place, Register};
+use bindings::{Answer, Firmware, Mailbox, Place, Refusal, Register};
 use std::collections::BTreeMap;
 
-/// A recording that has been played to its end.
+/// A recording, as far as it has been played.
 pub struct Recording {
     /// The mailboxes, one after another. The first begins with the recording.
     pub parts: Vec<Part>,
@@ -70,6 +71,24 @@ pub enum Told {
     },
 }
 
+/// What came of something that a caller asked, by the end of the recording.
+#[derive(Clone, Copy, Debug, PartialEq, Eq)]
+pub enum Outcome {
+    Refused(u64),
+    Taken {
+        line: u64,
+        word: u64,
+    },
+    /// The word that lies ready for its caller.
+    NotTaken(u64),
+    NotAnswered,
+    /// The number with which a take is refused, where the mailbox breaks its rules.
+    OutOfReach(u64),
+}
+
+/// The names of the steps, in the order in which a part has them.
+pub const STEPS: [&str; 3] = ["load", "turn", "unload"];
+
 /// How often load, turn or unload was asked for and acted, and where it was refused, with the number.
 #[derive(Default)]
 pub struct Step {
@@ -79,22 +98,34 @@ pub struct Step {
 }
 
 impl Recording {
-    /// Plays the lines of a recording.
-    pub fn play(bytes: &[u8]) -> Recording {
-        let mut recording = Recording {
+    /// A recording of which no line is played yet.
+    pub fn new() -> Recording {
+        Recording {
             parts: vec![Part::of(None, Mailbox::fresh())],
             wrong: Vec::new(),
-        };
+        }
+    }
+
+    /// Plays the lines of a recording.
+    pub fn play(bytes: &[u8]) -> Recording {
+        let mut recording = Recording::new();
         for (line, text) in (1u64..).zip(bytes.split_inclusive(|&byte| byte == b'\n')) {
             let words = words_of(text);
-            if let Some((name, words)) = words.split_first() {
-                if let Err(bad) = recording.play_line(line, name, words) {
-                    let reason = bad.reason;
-                    recording.wrong.push(WrongLine { line, reason });
-                }
+            if words.is_empty() {
+                continue;
+            }
+            let (call, _) = recorded::parted(&words);
+            if let Err(bad) = recording.play_line(line, call) {
+                let reason = bad.reason;
+                recording.wrong.push(WrongLine { line, reason });
             }
         }
         recording
+    }
+
+    /// The mailboxes of which there is something to show.
+    pub fn touched(&self) -> impl Iterator<Item = &Part> {
+        self.parts.iter().filter(|part| !part.untouched())
     }
 
     /// Whether any call was refused.
@@ -102,10 +133,13 @@ impl Recording {
         self.parts.iter().any(Part::refused)
     }
 
-    fn play_line(&mut self, line: u64, name: &[u8], words: &[&[u8]]) -> Result<(), BadLine> {
+    /// Plays the next line, by its number and its words. One that is no call on the mailbox changes nothing.
+    pub fn play_line(&mut self, line: u64, words: &[&[u8]]) -> Result<(), BadLine> {
+        let no_call = || BadLine::new("it has no call");
+        let (name, words) = words.split_first().ok_or_else(no_call)?;
         let call = FORMS
             .iter()
-            .find(|call| call.name.as_bytes() == name)
+            .find(|call| call.name.as_bytes() == *name)
             .ok_or_else(|| {
                 let name = quoted(name);
                 BadLine::new(format!(
@@ -241,8 +275,21 @@ impl Part {
         self.callers.entry(caller).or_default().push(row);
     }
 
+    /// What came of something that a caller asked. Where nothing was taken, the library tells by what it would answer to a take.
+    pub fn outcome(&self, caller: u32, row: &Row) -> Outcome {
+        match row.answer {
+            Told::Refused(number) => Outcome::Refused(number),
+            Told::Taken { line, word } => Outcome::Taken { line, word },
+            Told::Untaken => match self.take_at_the_end(caller) {
+                Ok(word) => Outcome::NotTaken(word),
+                Err(refusal) if refusal.is(Refusal::EARLY) => Outcome::NotAnswered,
+                Err(refusal) => Outcome::OutOfReach(refusal.number),
+            },
+        }
+    }
+
     /// What a take by this caller would be answered at the end. The mailbox stays as it is.
-    pub fn take_at_the_end(&self, caller: u32) -> Answer<u64> {
+    fn take_at_the_end(&self, caller: u32) -> Answer<u64> {
         self.mailbox.clone().take(caller)
     }
 
@@ -252,7 +299,7 @@ impl Part {
     }
 
     /// Whether there is nothing to show: no line made the mailbox, and nothing was asked of it.
-    pub fn untouched(&self) -> bool {
+    fn untouched(&self) -> bool {
         let asked = self.steps.iter().any(|step| step.asked > 0);
         self.made.is_none() && self.callers.is_empty() && !asked
     }
@@ -277,7 +324,6 @@ impl Step {
 #[cfg(test)]
 mod tests {
     use super::*;
-    use bindings::Refusal;
 
     fn played(script: &str) -> Recording {
         Recording::play(script.as_bytes())
@@ -364,6 +410,16 @@ mod tests {
             let recording = played(&format!("{} {words}\n", call.name));
             assert_eq!(recording.wrong, [], "{}", call.name);
         }
+    }
+
+    #[test]
+    fn an_answer_that_somebody_saw_is_left_out() {
+        let with_answers = played("post 1 0x81 0 => refused 10\nload => no # so it was\nturn\n");
+        let part = &with_answers.parts[0];
+        assert_eq!(with_answers.wrong, []);
+        assert_eq!(part.callers[&1], [post(1, 0x81, Told::Untaken)]);
+        assert_eq!(part.steps[0].acted, 1);
+        assert_eq!(played("=> ok\n").wrong[0].reason, "it has no call");
     }
 
     #[test]
