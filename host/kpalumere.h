@@ -34,9 +34,9 @@ extern "C" {
  */
 
 #define KPALUMERE_VERSION_MAJOR 0
-#define KPALUMERE_VERSION_MINOR 1
+#define KPALUMERE_VERSION_MINOR 2
 #define KPALUMERE_VERSION_PATCH 0
-#define KPALUMERE_VERSION "0.1.0"
+#define KPALUMERE_VERSION "0.2.0"
 
 /* ---- What a call answers, by name ----
  *
@@ -68,26 +68,28 @@ enum {
 /* ---- How many words a call is lent, by name ----
  *
  * With so many words lent no call is refused for want of words: KPALUMERE_EFS_WORDS for kpalumere_efs, and so on. A call that
- * is lent no words has no such name.
+ * is lent no words has no such name. Where a refusal may have a place, as told below, it is as many as that takes, though the call
+ * may give fewer.
  */
 
 enum {
     KPALUMERE_CHECKSUM_WORDS = 1,
     KPALUMERE_EFS_WORDS = 3,
     KPALUMERE_POINTER_WORDS = 3,
-    KPALUMERE_DIRECTORY_WORDS = 3,
+    KPALUMERE_DIRECTORY_WORDS = 4,
     KPALUMERE_REPEATED_WORDS = 4,
     KPALUMERE_ENTRY_WORDS = 5,
-    KPALUMERE_PART_WORDS = 2,
-    KPALUMERE_FIND_WORDS = 2,
+    KPALUMERE_PART_WORDS = 4,
+    KPALUMERE_FIND_WORDS = 4,
     KPALUMERE_FIND_IMAGE_WORDS = 4,
     KPALUMERE_VERSION_WORDS = 1,
-    KPALUMERE_ENTRY_VERSION_WORDS = 1,
-    KPALUMERE_VIEW_WORDS = 1,
+    KPALUMERE_ENTRY_VERSION_WORDS = 4,
+    KPALUMERE_VIEW_WORDS = 4,
     KPALUMERE_VIEW_ENTRY_WORDS = 5,
-    KPALUMERE_VIEW_PART_WORDS = 2,
-    KPALUMERE_VIEW_VERSION_WORDS = 1,
-    KPALUMERE_EXTEND_WORDS = 1,
+    KPALUMERE_VIEW_PART_WORDS = 4,
+    KPALUMERE_VIEW_VERSION_WORDS = 4,
+    KPALUMERE_WRONG_WORDS = 5,
+    KPALUMERE_EXTEND_WORDS = 4,
     KPALUMERE_ASPT_READ_WORDS = 22,
     KPALUMERE_ASPT_WRITE_WORDS = 22,
     KPALUMERE_GUIDS_WORDS = 2,
@@ -96,9 +98,10 @@ enum {
     KPALUMERE_GUID_EXTEND_WORDS = 1,
 
     /* kpalumere_view_entries: three words of the directory, then a row for each entry, of which there are at most 512. */
+    KPALUMERE_HEAD_WORDS = 3,
     KPALUMERE_MOST_ENTRIES = 512,
     KPALUMERE_ROW_WORDS = 8,
-    KPALUMERE_VIEW_ENTRIES_WORDS = KPALUMERE_DIRECTORY_WORDS + KPALUMERE_ROW_WORDS * KPALUMERE_MOST_ENTRIES,
+    KPALUMERE_VIEW_ENTRIES_WORDS = KPALUMERE_HEAD_WORDS + KPALUMERE_ROW_WORDS * KPALUMERE_MOST_ENTRIES,
 
     /* kpalumere_directories: a word with their number, then four for each, of which there are at most 257: level one, and one
      * for each entry of type 0x40, since no two of these have the same of 256 subprograms. */
@@ -109,6 +112,31 @@ enum {
     /* The words of a mailbox, and the values that each of its calls is lent beside them; kpalumere_post gives none. */
     KPALUMERE_MAILBOX_WORDS = 88,
     KPALUMERE_MAILBOX_VALUES = 1
+};
+
+/* ---- Where a refusal was met ----
+ *
+ * What is met inside a directory has a place: the refusal leaves four words besides its number.
+ *
+ *   0  what it was met in: KPALUMERE_MET_HEADER, the directory's header, or KPALUMERE_MET_ENTRY, one of its entries
+ *   1  the level of the directory, 0 where no cookie told it
+ *   2  the index of the entry, 0 of a header
+ *   3  the place where the directory begins
+ *
+ * Of a header these are 1, 2, 3, 4 and 5, and of an entry 5, 14 and 18, all of a directory that is not good; and of an entry that
+ * is asked for its bytes, or that leads to level two, 17, 16 and 7. No other refusal has a place, and none but an 8 of a lookup
+ * writes a word then: not 9, 12 and 15, not a 2 where there is no EFS or no mark, not a 7 of the EFS's pointer or of a place that
+ * is lent, nor what refuses the new entry of an extend.
+ *
+ * So a caller who asks for the place sets words[0] to 0, lends KPALUMERE_PLACE_WORDS words at least, and looks at words[0] after
+ * a refusal; an 8 leaves no place. With fewer words lent, "below 4 with a place" in what follows, such a refusal is a 12, which
+ * has none. kpalumere_wrong tells what is wrong there.
+ */
+
+enum {
+    KPALUMERE_PLACE_WORDS = 4,
+    KPALUMERE_MET_HEADER = 1,
+    KPALUMERE_MET_ENTRY = 2
 };
 
 /* ---- The checksum ---- */
@@ -132,7 +160,8 @@ uint64_t kpalumere_checksum(const uint8_t *bytes, size_t bytes_len, uint64_t *wo
  * 16,777,216 bytes; 2 where it has no EFS; 7 where the EFS's pointer, or the entry that leads to level two, leads out of it; 8
  * where there is no pointer or no such entry; 16 where that entry has address mode 3; and for a directory that is not good 1
  * (cut off), 2 (cookie), 3 (total), 4 (checksum), 5 (reserved bits), 14 (type 0x40 in level two) or 18 (an entry has the type
- * and subprogram of an earlier one of the same directory). What a call answers besides stands with it.
+ * and subprogram of an earlier one of the same directory). A directory's refusals have a place, and so have the 7 and 16 of the
+ * entry that leads to level two: that entry's, in level one. What a call answers besides stands with it.
  */
 
 /* The EFS and its two directory pointers as they stand: the early one at 0x10, the late one at 0x14. It asks neither for a
@@ -153,7 +182,8 @@ uint64_t kpalumere_pointer(const uint8_t *image, size_t image_len, uint64_t *wor
 
 /* The directory of a level. No two of its entries have the same type and subprogram, else it is refused with 18.
  *
- * Answers 0 and words[0] = its place, words[1] = its level, words[2] = its total; 12 where words_len is below 3.
+ * Answers 0 and words[0] = its place, words[1] = its level, words[2] = its total; 12 where words_len is below 3, or below 4 with
+ * a place.
  */
 uint64_t kpalumere_directory(const uint8_t *image, size_t image_len, uint32_t level, uint64_t *words, size_t words_len);
 
@@ -162,7 +192,7 @@ uint64_t kpalumere_directory(const uint8_t *image, size_t image_len, uint32_t le
  * call for level two.
  *
  * Answers 0 and words[0] = the index of the entry that repeats, words[1] = the index of the earlier one, words[2] = the type and
- * words[3] = the subprogram of both; 8 where the directory is good, too; 12 where words_len is below 4.
+ * words[3] = the subprogram of both; 8 where the directory is good, too; 12 where words_len is below 4, also with a place.
  */
 uint64_t kpalumere_repeated(const uint8_t *image, size_t image_len, uint32_t level, uint64_t *words, size_t words_len);
 
@@ -170,7 +200,8 @@ uint64_t kpalumere_repeated(const uint8_t *image, size_t image_len, uint32_t lev
  * for.
  *
  * Answers 0 and words[0] = its type, words[1] = its subprogram, words[2] = its size, words[3] = its location or value,
- * words[4] = its address mode (0 to 3); 8 where `index` is not below the total; 12 where words_len is below 5.
+ * words[4] = its address mode (0 to 3); 8 where `index` is not below the total; 12 where words_len is below 5, or below 4 with a
+ * place.
  */
 uint64_t kpalumere_entry(const uint8_t *image, size_t image_len, uint32_t level, uint64_t index, uint64_t *words,
                          size_t words_len);
@@ -178,8 +209,9 @@ uint64_t kpalumere_entry(const uint8_t *image, size_t image_len, uint32_t level,
 /* Where the bytes of an entry of the directory of a level lie, also where there are none of them. The directory is refused,
  * with 18 as with its other numbers, whichever entry is asked for.
  *
- * Answers 0 and words[0] = their place, words[1] = their length; 8 where `index` is not below the total; 17 where the entry
- * holds a value; 16 where its address mode is 3; 7 where the bytes do not lie in the image; 12 where words_len is below 2.
+ * Answers 0 and words[0] = their place, words[1] = their length; 8 where `index` is not below the total; with the entry's place
+ * 17 where it holds a value, 16 where its address mode is 3, 7 where the bytes do not lie in the image; 12 where words_len is
+ * below 2, or below 4 with a place.
  */
 uint64_t kpalumere_part(const uint8_t *image, size_t image_len, uint32_t level, uint64_t index, uint64_t *words,
                         size_t words_len);
@@ -188,7 +220,7 @@ uint64_t kpalumere_part(const uint8_t *image, size_t image_len, uint32_t level, 
  * subprogram is refused with 18, whichever is looked for.
  *
  * Answers 0 and words[0] = its index, words[1] = how many entries were tested; 8 and words[0] = how many entries were tested,
- * which is 0 where there is no such directory; 12 where words_len is below 2, or below 1 with an 8.
+ * which is 0 where there is no such directory; 12 where words_len is below 2, or below 1 with an 8, or below 4 with a place.
  */
 uint64_t kpalumere_find(const uint8_t *image, size_t image_len, uint32_t level, uint8_t type, uint8_t sub, uint64_t *words,
                         size_t words_len);
@@ -198,8 +230,8 @@ uint64_t kpalumere_find(const uint8_t *image, size_t image_len, uint32_t level, 
  * a match refuses the lookup, an 18 of a level two too.
  *
  * Answers 0 and words[0] = the place of the match's directory, words[1] = its level, words[2] = the match's index,
- * words[3] = how many entries were tested; 8 and words[0] = how many entries were tested; 12 where words_len is below 4, or
- * below 1 with an 8. It is given no level, so 9 is never answered.
+ * words[3] = how many entries were tested; 8 and words[0] = how many entries were tested; 12 where words_len is below 4, also
+ * with a place, or below 1 with an 8. It is given no level, so 9 is never answered.
  */
 uint64_t kpalumere_find_image(const uint8_t *image, size_t image_len, uint8_t type, uint8_t sub, uint64_t *words,
                               size_t words_len);
@@ -215,7 +247,7 @@ uint64_t kpalumere_find_image(const uint8_t *image, size_t image_len, uint8_t ty
  *
  * Answers 0 and words[0] = how many directories there are, then four words for each: its place, its level, its total, and the
  * index of the entry of level one that led there, which is 0 for level one itself; 12 where words_len is below 1 + 4 * their
- * number.
+ * number, or below 4 with a place.
  */
 uint64_t kpalumere_directories(const uint8_t *image, size_t image_len, uint64_t *words, size_t words_len);
 
@@ -232,8 +264,9 @@ uint64_t kpalumere_version(const uint8_t *bytes, size_t bytes_len, uint64_t *wor
 
 /* The same of the firmware binary that the bytes of an entry of the directory of a level are.
  *
- * Answers 0 and words[0] = the version; where the entry has no bytes the number of kpalumere_part, which comes first; then 1
- * where the bytes are fewer than 256, and 2 where they lack the mark; 12 where words_len is 0.
+ * Answers 0 and words[0] = the version; where the entry has no bytes the number and the place of kpalumere_part, which comes
+ * first; then 1 where the bytes are fewer than 256, and 2 where they lack the mark, both without a place; 12 where words_len is
+ * 0, or below 4 with a place.
  */
 uint64_t kpalumere_entry_version(const uint8_t *image, size_t image_len, uint32_t level, uint64_t index, uint64_t *words,
                                  size_t words_len);
@@ -241,28 +274,31 @@ uint64_t kpalumere_entry_version(const uint8_t *image, size_t image_len, uint32_
 /* ---- Views ----
  *
  * A view of a checked directory is the image and the place where the directory begins. The directory is checked again at each
- * call, without the EFS; its level is that of its cookie.
+ * call, without the EFS; its level is that of its cookie. Where a refusal tells a level, that is 0 where the cookie is neither
+ * (2), or there are fewer than the header's 16 bytes (1).
  */
 
 /* The place that a view of the directory of a level holds.
  *
- * Answers 0 and words[0] = the place; 12 where words_len is 0; else what kpalumere_directory answers, 18 among it.
+ * Answers 0 and words[0] = the place; 12 where words_len is 0, or below 4 with a place; else what kpalumere_directory answers, 18
+ * among it.
  */
 uint64_t kpalumere_view(const uint8_t *image, size_t image_len, uint32_t level, uint64_t *words, size_t words_len);
 
 /* An entry, from a view that holds the image and the place.
  *
  * Answers 0 and five words as kpalumere_entry; 15 for an image that is empty or has more than 16,777,216 bytes; 7 where the
- * place lies beyond it; 1, 2, 3, 4, 5, 14 or 18 for a directory that is not good; 8 where `index` is not below its total; 12
- * where words_len is below 5.
+ * place lies beyond it; with a place 1, 2, 3, 4, 5, 14 or 18 for a directory that is not good; 8 where `index` is not below its
+ * total; 12 where words_len is below 5, or below 4 with a place.
  */
 uint64_t kpalumere_view_entry(const uint8_t *image, size_t image_len, size_t place, size_t index, uint64_t *words,
                               size_t words_len);
 
 /* Where the bytes of an entry lie, from a view that holds the image and the place.
  *
- * Answers 0 and two words as kpalumere_part; the refusals of kpalumere_view_entry, 18 among them; 17 where the entry holds a
- * value; 16 where its address mode is 3; 7 where the bytes do not lie in the image; 12 where words_len is below 2.
+ * Answers 0 and two words as kpalumere_part; the refusals of kpalumere_view_entry, 18 among them; with the entry's place 17 where
+ * it holds a value, 16 where its address mode is 3, 7 where the bytes do not lie in the image; 12 where words_len is below 2, or
+ * below 4 with a place.
  */
 uint64_t kpalumere_view_part(const uint8_t *image, size_t image_len, size_t place, size_t index, uint64_t *words,
                              size_t words_len);
@@ -272,18 +308,46 @@ uint64_t kpalumere_view_part(const uint8_t *image, size_t image_len, size_t plac
  *
  * Answers 0 and words[0] = the directory's place, words[1] = its level, words[2] = its total, then a row of eight words for
  * each entry, in order: its type, its subprogram, its size, its location or value, its address mode, then 0 and the place and
- * the length of its bytes, or the number that refuses them (17, 16 or 7) and 0 and 0; 15, 7, 1, 2, 3, 4, 5, 14 or 18 as
- * kpalumere_view_entry; 12 where words_len is below 3 + 8 * the total.
+ * the length of its bytes, or the number that refuses them (17, 16 or 7) and 0 and 0: its place is that of the row. 15, 7, 1, 2,
+ * 3, 4, 5, 14 or 18 as kpalumere_view_entry; 12 where words_len is below 3 + 8 * the total, or below 4 with a place.
  */
 uint64_t kpalumere_view_entries(const uint8_t *image, size_t image_len, size_t place, uint64_t *words, size_t words_len);
 
 /* The version of the firmware binary that the bytes of an entry are, from a view that holds the image and the place.
  *
- * Answers 0 and words[0] = the version; where the entry has no bytes the number of kpalumere_view_part, which comes first; then
- * 1 where the bytes are fewer than 256, and 2 where they lack the mark; 12 where words_len is 0.
+ * Answers 0 and words[0] = the version; where the entry has no bytes the number and the place of kpalumere_view_part, which comes
+ * first; then 1 where the bytes are fewer than 256, and 2 where they lack the mark, both without a place; 12 where words_len is
+ * 0, or below 4 with a place.
  */
 uint64_t kpalumere_view_version(const uint8_t *image, size_t image_len, size_t place, size_t index, uint64_t *words,
                                 size_t words_len);
+
+/* ---- What is wrong at a place ---- */
+
+/* Of the place that a refusal left: which field is wrong, what stands there and what should. `place`, `level` and `index` are
+ * words[3], words[1] and words[2] of that refusal, and `image` is what the refused call was lent, an extend's buffer too. The
+ * directory there is checked again, of level 0 as its cookie names it; where it is good, the location of its entry `index` is.
+ *
+ * Answers 0 and words[0] = the number of the refusal, words[1] = where in the image the field begins, words[2] = its bytes,
+ * words[3] = what stands there, words[4] = what should:
+ *
+ *   1   the header, or the entries behind it: how many bytes there are, and how many there should be
+ *   2   the cookie there, and that of the level; of level 0 that of level one
+ *   3   the total, and the largest, 512
+ *   4   the checksum there, and that of the bytes
+ *   5   the header's reserved bytes, or the entry's flags; and 0
+ *   14  the type, and the level where it may stand, 1
+ *   18  the type, and the index of the first entry that has it with the same subprogram
+ *   17  the type, and the type that is a value, 0x0B
+ *   16  of the location's eight bytes the address mode, 3; and the highest, 2
+ *   7   of the same bytes the location; and the image's length, where the entry's bytes end at the latest
+ *
+ * Refused, always without a place: 9 where the level is above 2; then 15 for an image that is empty or has more than 16,777,216
+ * bytes; 7 where `place` lies beyond it; 8 where nothing is wrong there, or the good directory has no entry `index`; 12 where
+ * words_len is below 5.
+ */
+uint64_t kpalumere_wrong(const uint8_t *image, size_t image_len, size_t place, uint32_t level, size_t index, uint64_t *words,
+                         size_t words_len);
 
 /* ---- Writing a directory ----
  *
@@ -299,9 +363,10 @@ uint64_t kpalumere_start(uint8_t *buf, size_t buf_len, uint32_t level);
 /* Adds an entry to the good directory at the buffer's start. The entry, the total and the checksum are written, and every other
  * byte is kept.
  *
- * Answers 0 and words[0] = the new total; 1, 2, 3, 4, 5, 14 or 18 for a directory that is not good; then 5 where the location
- * is not below 2^62 or the mode is above 3; 14 for type 0x40 in level two; 18 where an entry of the directory has the type and
- * subprogram; 3 where the total is 512 already; 12 where the buffer has no room for 16 bytes more, or words_len is 0.
+ * Answers 0 and words[0] = the new total; with a place, which counts from the buffer's start, 1, 2, 3, 4, 5, 14 or 18 for a
+ * directory that is not good; then, without one, 5 where the location is not below 2^62 or the mode is above 3; 14 for type 0x40
+ * in level two; 18 where an entry of the directory has the type and subprogram; 3 where the total is 512 already; 12 where the
+ * buffer has no room for 16 bytes more. Also 12 where words_len is 0, or below 4 with a place.
  */
 uint64_t kpalumere_extend(uint8_t *buf, size_t buf_len, uint8_t type, uint8_t sub, uint32_t size, uint64_t location,
                           uint32_t mode, uint64_t *words, size_t words_len);

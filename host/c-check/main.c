@@ -20,6 +20,24 @@ static void expect(const char *what, uint64_t expected, uint64_t found)
     }
 }
 
+/* The words are these, and those behind them are kept. */
+static void expect_words(const char *what, const uint64_t *expected, size_t count, const uint64_t *words, size_t all)
+{
+    for (size_t i = 0; i < all; i++) {
+        char which[80];
+
+        snprintf(which, sizeof which, "%s, word %u", what, (unsigned)i);
+        expect(which, i < count ? expected[i] : untouched, words[i]);
+    }
+}
+
+/* Fills words with what no call of these checks writes. */
+static void fill_words(uint64_t *words, size_t count)
+{
+    for (size_t i = 0; i < count; i++)
+        words[i] = untouched;
+}
+
 static void check_checksum(void)
 {
     /* From byte 8 on: of an empty directory, and of one with an entry of type 1, size 0x100, at 0x1000 in mode 1. */
@@ -152,6 +170,21 @@ static const uint8_t *board_that_repeats(size_t *length)
     return image;
 }
 
+/* A call on a directory with a fault that has a place. It is refused with 12 where three words are lent, and keeps them; with one
+ * more it answers the number and leaves the place, and keeps the words behind. The other arguments come before the words. */
+#define EXPECT_PLACE(number, met, level, index, directory, call, ...)                                  \
+    do {                                                                                                \
+        const uint64_t place_[] = {met, level, index, directory};                                      \
+        uint64_t lent_[KPALUMERE_PLACE_WORDS + 2];                                                     \
+                                                                                                        \
+        fill_words(lent_, KPALUMERE_PLACE_WORDS + 2);                                                  \
+        expect(#call " with three words", KPALUMERE_ROOM, call(__VA_ARGS__, lent_, 3));                \
+        expect(#call " with none", KPALUMERE_ROOM, call(__VA_ARGS__, lent_, 0));                       \
+        expect_words(#call " without room for a place", place_, 0, lent_, KPALUMERE_PLACE_WORDS + 2);  \
+        expect(#call " with words for a place", number, call(__VA_ARGS__, lent_, KPALUMERE_PLACE_WORDS)); \
+        expect_words(#call " with a place", place_, 4, lent_, KPALUMERE_PLACE_WORDS + 2);              \
+    } while (0)
+
 static void check_repeated(void)
 {
     size_t length;
@@ -160,17 +193,22 @@ static void check_repeated(void)
     uint64_t words[5] = {1, 2, 3, 4, 5};
     static const uint64_t kept[5] = {1, 2, 3, 4, 5};
 
-    expect("a directory that repeats is refused", 18, kpalumere_directory(image, length, 1, words, 3));
-    expect("so is level two behind it", 18, kpalumere_directory(image, length, 2, words, 3));
-    expect("an entry before the repeat", 18, kpalumere_entry(image, length, 1, 0, words, 5));
-    expect("a part", 18, kpalumere_part(image, length, 1, 0, words, 2));
-    expect("a lookup of another type", 18, kpalumere_find(image, length, 1, 3, 0, words, 2));
-    expect("a lookup in the whole image", 18, kpalumere_find_image(image, length, 1, 0, words, 4));
-    expect("a view", 18, kpalumere_view(image, length, 1, words, 1));
-    expect("an entry by a view", 18, kpalumere_view_entry(image, length, 0x200, 0, words, 5));
-    expect("a part by a view", 18, kpalumere_view_part(image, length, 0x200, 0, words, 2));
+    /* The second entry of level one repeats the first. Level two is behind it. */
+    EXPECT_PLACE(18, KPALUMERE_MET_ENTRY, 1, 1, 0x200, kpalumere_directory, image, length, 1);
+    EXPECT_PLACE(18, KPALUMERE_MET_ENTRY, 1, 1, 0x200, kpalumere_directory, image, length, 2);
+    EXPECT_PLACE(18, KPALUMERE_MET_ENTRY, 1, 1, 0x200, kpalumere_directories, image, length);
+    EXPECT_PLACE(18, KPALUMERE_MET_ENTRY, 1, 1, 0x200, kpalumere_repeated, image, length, 2);
+    EXPECT_PLACE(18, KPALUMERE_MET_ENTRY, 1, 1, 0x200, kpalumere_entry, image, length, 1, 0);
+    EXPECT_PLACE(18, KPALUMERE_MET_ENTRY, 1, 1, 0x200, kpalumere_part, image, length, 1, 0);
+    EXPECT_PLACE(18, KPALUMERE_MET_ENTRY, 1, 1, 0x200, kpalumere_find, image, length, 1, 3, 0);
+    EXPECT_PLACE(18, KPALUMERE_MET_ENTRY, 1, 1, 0x200, kpalumere_find_image, image, length, 1, 0);
+    EXPECT_PLACE(18, KPALUMERE_MET_ENTRY, 1, 1, 0x200, kpalumere_entry_version, image, length, 1, 0);
+    EXPECT_PLACE(18, KPALUMERE_MET_ENTRY, 1, 1, 0x200, kpalumere_view, image, length, 1);
+    EXPECT_PLACE(18, KPALUMERE_MET_ENTRY, 1, 1, 0x200, kpalumere_view_entry, image, length, 0x200, 0);
+    EXPECT_PLACE(18, KPALUMERE_MET_ENTRY, 1, 1, 0x200, kpalumere_view_part, image, length, 0x200, 0);
+    EXPECT_PLACE(18, KPALUMERE_MET_ENTRY, 1, 1, 0x200, kpalumere_view_entries, image, length, 0x200);
+    EXPECT_PLACE(18, KPALUMERE_MET_ENTRY, 1, 1, 0x200, kpalumere_view_version, image, length, 0x200, 0);
     expect("no room for the entries that repeat", 12, kpalumere_repeated(image, length, 1, words, 3));
-    expect("level two is not reached", 18, kpalumere_repeated(image, length, 2, words, 4));
     expect("there is no level three", 9, kpalumere_repeated(image, length, 3, words, 4));
     expect("a good directory repeats nothing", 8, kpalumere_repeated(good, length, 1, words, 4));
     expect("the words are kept", 0, (uint64_t)(memcmp(words, kept, sizeof kept) != 0));
@@ -206,28 +244,10 @@ static const uint8_t *board_of_two_leads(size_t *length)
     return image;
 }
 
-/* The words are these, and those behind them are kept. */
-static void expect_words(const char *what, const uint64_t *expected, size_t count, const uint64_t *words, size_t all)
-{
-    for (size_t i = 0; i < all; i++) {
-        char which[80];
-
-        snprintf(which, sizeof which, "%s, word %u", what, (unsigned)i);
-        expect(which, i < count ? expected[i] : untouched, words[i]);
-    }
-}
-
-/* Fills words with what no call of these checks writes. */
-static void fill_words(uint64_t *words, size_t count)
-{
-    for (size_t i = 0; i < count; i++)
-        words[i] = untouched;
-}
-
 static void check_view_entries(void)
 {
     /* Three words of the directory, and a row for each of its six entries. */
-    static const uint64_t listed[3 + 6 * KPALUMERE_ROW_WORDS] = {
+    static const uint64_t listed[KPALUMERE_HEAD_WORDS + 6 * KPALUMERE_ROW_WORDS] = {
         0x200, 1,  6,
         0x01,  0,  0x100, 0x1000,      1, KPALUMERE_ACCEPTED, 0x1000, 0x100,
         0x0B,  0,  0,     0x1234,      0, KPALUMERE_VALUE,    0,      0,
@@ -237,20 +257,15 @@ static void check_view_entries(void)
         0x40,  8,  0,     0x200,       2, KPALUMERE_ACCEPTED, 0x400,  0};
     enum { LISTED = sizeof listed / sizeof listed[0] };
     static uint64_t words[KPALUMERE_VIEW_ENTRIES_WORDS];
-    size_t length, repeats_length;
+    size_t length;
     const uint8_t *image = board_of_two_leads(&length);
-    const uint8_t *repeats = board_that_repeats(&repeats_length);
 
+    EXPECT_PLACE(KPALUMERE_SHORT, KPALUMERE_MET_HEADER, 0, 0, length - 15, kpalumere_view_entries, image, length, length - 15);
+    EXPECT_PLACE(KPALUMERE_SIGNATURE, KPALUMERE_MET_HEADER, 0, 0, 0x201, kpalumere_view_entries, image, length, 0x201);
     fill_words(words, KPALUMERE_VIEW_ENTRIES_WORDS);
     expect("no image", KPALUMERE_IMAGE, kpalumere_view_entries(image, 0, 0, words, KPALUMERE_VIEW_ENTRIES_WORDS));
     expect("a place beyond the image", KPALUMERE_OUTSIDE,
            kpalumere_view_entries(image, length, SIZE_MAX, words, KPALUMERE_VIEW_ENTRIES_WORDS));
-    expect("no room for a header", KPALUMERE_SHORT,
-           kpalumere_view_entries(image, length, length - 15, words, KPALUMERE_VIEW_ENTRIES_WORDS));
-    expect("no directory", KPALUMERE_SIGNATURE,
-           kpalumere_view_entries(image, length, 0x201, words, KPALUMERE_VIEW_ENTRIES_WORDS));
-    expect("a directory that repeats", KPALUMERE_REPEATED,
-           kpalumere_view_entries(repeats, repeats_length, 0x200, words, KPALUMERE_VIEW_ENTRIES_WORDS));
     expect("a word too few", KPALUMERE_ROOM, kpalumere_view_entries(image, length, 0x200, words, LISTED - 1));
     expect("no words", KPALUMERE_ROOM, kpalumere_view_entries(image, length, 0x200, words, 0));
     expect_words("nothing is written", listed, 0, words, KPALUMERE_VIEW_ENTRIES_WORDS);
@@ -278,9 +293,8 @@ static void check_directories(void)
     fill_words(words, KPALUMERE_DIRECTORIES_WORDS);
     expect("no image", KPALUMERE_IMAGE, kpalumere_directories(image, 0, words, KPALUMERE_DIRECTORIES_WORDS));
     expect("no EFS", KPALUMERE_SIGNATURE, kpalumere_directories(image, 1, words, KPALUMERE_DIRECTORIES_WORDS));
-    expect("a fault behind the second lead", KPALUMERE_CHECKSUM,
-           kpalumere_directories(damaged, length, words, KPALUMERE_DIRECTORIES_WORDS));
-    expect("of which the first level two knows nothing", KPALUMERE_ACCEPTED,
+    EXPECT_PLACE(KPALUMERE_CHECKSUM, KPALUMERE_MET_HEADER, 2, 0, 0x400, kpalumere_directories, damaged, length);
+    expect("a fault behind the second lead is none of the first", KPALUMERE_ACCEPTED,
            kpalumere_directory(damaged, length, 2, words, KPALUMERE_DIRECTORY_WORDS));
     fill_words(words, KPALUMERE_DIRECTORY_WORDS);
     expect("a word too few", KPALUMERE_ROOM, kpalumere_directories(image, length, words, LISTED - 1));
@@ -292,6 +306,95 @@ static void check_directories(void)
     image = board(&length);
     expect("level one alone", KPALUMERE_ACCEPTED, kpalumere_directories(image, length, words, KPALUMERE_DIRECTORIES_WORDS));
     expect_words("one directory", alone, ALONE, words, KPALUMERE_DIRECTORIES_WORDS);
+}
+
+/* Places in a header, in an entry's location, and in a buffer that is extended; and refusals that have none. */
+static void check_places(void)
+{
+    static uint8_t damaged[BOARD_BYTES];
+    size_t length;
+    const uint8_t *image = board_of_two_leads(&length);
+    uint64_t words[5];
+
+    memcpy(damaged, image, length);
+    damaged[0x304] ^= 1;
+    EXPECT_PLACE(KPALUMERE_CHECKSUM, KPALUMERE_MET_HEADER, 2, 0, 0x300, kpalumere_directory, damaged, length, 2);
+    EXPECT_PLACE(KPALUMERE_CHECKSUM, KPALUMERE_MET_HEADER, 2, 0, 0x300, kpalumere_find, damaged, length, 2, 9, 9);
+    EXPECT_PLACE(KPALUMERE_CHECKSUM, KPALUMERE_MET_HEADER, 2, 0, 0x300, kpalumere_find_image, damaged, length, 9, 9);
+    EXPECT_PLACE(KPALUMERE_CHECKSUM, KPALUMERE_MET_HEADER, 2, 0, 0x300, kpalumere_view_entry, damaged, length, 0x300, 0);
+    EXPECT_PLACE(KPALUMERE_CHECKSUM, KPALUMERE_MET_HEADER, 2, 0, 0, kpalumere_extend, damaged + 0x300, 0x100, 1, 0, 0, 0, 1);
+    EXPECT_PLACE(KPALUMERE_SIGNATURE, KPALUMERE_MET_HEADER, 0, 0, 0, kpalumere_extend, damaged + 0x301, 0x100, 1, 0, 0, 0, 1);
+    EXPECT_PLACE(KPALUMERE_SHORT, KPALUMERE_MET_HEADER, 0, 0, 0, kpalumere_extend, damaged + 0x300, 15, 1, 0, 0, 0, 1);
+
+    EXPECT_PLACE(KPALUMERE_VALUE, KPALUMERE_MET_ENTRY, 1, 1, 0x200, kpalumere_part, image, length, 1, 1);
+    EXPECT_PLACE(KPALUMERE_OUTSIDE, KPALUMERE_MET_ENTRY, 1, 3, 0x200, kpalumere_view_part, image, length, 0x200, 3);
+    EXPECT_PLACE(KPALUMERE_MODE, KPALUMERE_MET_ENTRY, 1, 4, 0x200, kpalumere_entry_version, image, length, 1, 4);
+    EXPECT_PLACE(KPALUMERE_MODE, KPALUMERE_MET_ENTRY, 1, 4, 0x200, kpalumere_view_version, image, length, 0x200, 4);
+
+    fill_words(words, 5);
+    expect("no image", KPALUMERE_IMAGE, kpalumere_directory(image, 0, 1, words, 5));
+    expect("no image and no words", KPALUMERE_IMAGE, kpalumere_directory(image, 0, 1, words, 0));
+    expect("no EFS", KPALUMERE_SIGNATURE, kpalumere_find(image, 1, 1, 1, 0, words, 5));
+    expect("no such entry", KPALUMERE_ABSENT, kpalumere_part(image, length, 1, 6, words, 5));
+    expect("a place beyond the image", KPALUMERE_OUTSIDE, kpalumere_view_entry(image, length, length + 1, 0, words, 5));
+    expect("bytes too few for a version", KPALUMERE_SHORT, kpalumere_entry_version(image, length, 1, 2, words, 5));
+    expect("a mode for the new entry", KPALUMERE_FIELD, kpalumere_extend(damaged + 0x400, 0x100, 1, 0, 0, 0, 4, words, 5));
+    expect_words("nothing is written", words, 0, words, 5);
+}
+
+/* What is wrong at a place is told in these words, those behind are kept, and with a word fewer it is refused. */
+static void expect_wrong(const char *what, const uint8_t *image, size_t length, const uint64_t *place, const uint64_t *told)
+{
+    uint64_t words[KPALUMERE_WRONG_WORDS + 1];
+
+    fill_words(words, KPALUMERE_WRONG_WORDS + 1);
+    expect(what, KPALUMERE_ROOM,
+           kpalumere_wrong(image, length, (size_t)place[3], (uint32_t)place[1], (size_t)place[2], words, KPALUMERE_WRONG_WORDS - 1));
+    expect_words(what, told, 0, words, KPALUMERE_WRONG_WORDS + 1);
+    expect(what, KPALUMERE_ACCEPTED,
+           kpalumere_wrong(image, length, (size_t)place[3], (uint32_t)place[1], (size_t)place[2], words, KPALUMERE_WRONG_WORDS));
+    expect_words(what, told, KPALUMERE_WRONG_WORDS, words, KPALUMERE_WRONG_WORDS + 1);
+}
+
+static void check_wrong(void)
+{
+    static const uint64_t repeated[] = {KPALUMERE_REPEATED, 0x220, 1, 1, 0};
+    static const uint64_t outside[] = {KPALUMERE_OUTSIDE, 0x240 + 8, 8, BOARD_BYTES, BOARD_BYTES};
+    static const uint64_t mode[] = {KPALUMERE_MODE, 0x250 + 8, 8, 3, 2};
+    static const uint64_t cookie[] = {KPALUMERE_SIGNATURE, 0x201, 4, 0xFF505350, 0x50535024};
+    static const uint64_t checksum[] = {KPALUMERE_CHECKSUM, 0x204, 4, 0, 0x86145102};
+    static uint8_t damaged[BOARD_BYTES];
+    size_t length;
+    const uint8_t *image = board_that_repeats(&length);
+    uint64_t place[KPALUMERE_PLACE_WORDS] = {0}, words[6];
+
+    expect("a directory that repeats", KPALUMERE_REPEATED, kpalumere_directory(image, length, 1, place, KPALUMERE_PLACE_WORDS));
+    expect_wrong("the entry that repeats", image, length, place, repeated);
+
+    memcpy(damaged, board(&length), length);
+    memset(damaged + 0x204, 0, 4);
+    expect("a checksum that is wrong", KPALUMERE_CHECKSUM, kpalumere_view(damaged, length, 1, place, KPALUMERE_PLACE_WORDS));
+    expect_wrong("the checksum", damaged, length, place, checksum);
+    damaged[0x204] = 0xFF;
+    expect("no cookie", KPALUMERE_SIGNATURE, kpalumere_view_entry(damaged, length, 0x201, 0, place, KPALUMERE_PLACE_WORDS));
+    expect_wrong("the cookie", damaged, length, place, cookie);
+
+    image = board_of_two_leads(&length);
+    expect("bytes outside", KPALUMERE_OUTSIDE, kpalumere_part(image, length, 1, 3, place, KPALUMERE_PLACE_WORDS));
+    expect_wrong("the location", image, length, place, outside);
+    expect("mode 3", KPALUMERE_MODE, kpalumere_view_part(image, length, 0x200, 4, place, KPALUMERE_PLACE_WORDS));
+    expect_wrong("the mode", image, length, place, mode);
+
+    fill_words(words, 6);
+    expect("no image", KPALUMERE_IMAGE, kpalumere_wrong(image, 0, 0x200, 1, 3, words, 6));
+    expect("a place beyond the image", KPALUMERE_OUTSIDE, kpalumere_wrong(image, length, length + 1, 1, 3, words, 6));
+    expect("a place is 64 bits wide", KPALUMERE_OUTSIDE, kpalumere_wrong(image, length, SIZE_MAX, 1, 3, words, 6));
+    expect("there is no level three", KPALUMERE_RANGE, kpalumere_wrong(image, length, 0x200, 3, 3, words, 6));
+    expect("the level comes first", KPALUMERE_RANGE, kpalumere_wrong(image, 0, length + 1, 3, 3, words, 6));
+    expect("nothing is wrong in an entry", KPALUMERE_ABSENT, kpalumere_wrong(image, length, 0x200, 1, 0, words, 6));
+    expect("there is no such entry", KPALUMERE_ABSENT, kpalumere_wrong(image, length, 0x200, 1, 6, words, 6));
+    expect("an index is 64 bits wide", KPALUMERE_ABSENT, kpalumere_wrong(image, length, 0x200, 1, SIZE_MAX, words, 0));
+    expect_words("nothing is written", words, 0, words, 6);
 }
 
 static void check_version(void)
@@ -546,6 +649,13 @@ static void check_guids(void)
         expect(#call " with one fewer", KPALUMERE_ROOM, call(__VA_ARGS__, words, count - 1));            \
     } while (0)
 
+/* The same of a call that gives fewer words than a place takes: its count by name is that of a place. */
+#define EXPECT_FEWER(call, given, name, ...)                                                              \
+    do {                                                                                                  \
+        EXPECT_COUNT(call, given, __VA_ARGS__);                                                           \
+        expect(#name, KPALUMERE_PLACE_WORDS, name);                                                       \
+    } while (0)
+
 /* The counts that the header has by name. */
 static void check_counts(void)
 {
@@ -561,18 +671,19 @@ static void check_counts(void)
     EXPECT_COUNT(kpalumere_checksum, KPALUMERE_CHECKSUM_WORDS, image, length);
     EXPECT_COUNT(kpalumere_efs, KPALUMERE_EFS_WORDS, image, length);
     EXPECT_COUNT(kpalumere_pointer, KPALUMERE_POINTER_WORDS, image, length);
-    EXPECT_COUNT(kpalumere_directory, KPALUMERE_DIRECTORY_WORDS, image, length, 1);
+    EXPECT_FEWER(kpalumere_directory, 3, KPALUMERE_DIRECTORY_WORDS, image, length, 1);
     EXPECT_COUNT(kpalumere_repeated, KPALUMERE_REPEATED_WORDS, repeats, repeats_length, 1);
     EXPECT_COUNT(kpalumere_entry, KPALUMERE_ENTRY_WORDS, image, length, 1, 0);
-    EXPECT_COUNT(kpalumere_part, KPALUMERE_PART_WORDS, image, length, 1, 0);
-    EXPECT_COUNT(kpalumere_find, KPALUMERE_FIND_WORDS, image, length, 1, 1, 0);
+    EXPECT_FEWER(kpalumere_part, 2, KPALUMERE_PART_WORDS, image, length, 1, 0);
+    EXPECT_FEWER(kpalumere_find, 2, KPALUMERE_FIND_WORDS, image, length, 1, 1, 0);
     EXPECT_COUNT(kpalumere_find_image, KPALUMERE_FIND_IMAGE_WORDS, image, length, 1, 0);
     EXPECT_COUNT(kpalumere_version, KPALUMERE_VERSION_WORDS, image + 0x1000, 0x100);
-    EXPECT_COUNT(kpalumere_entry_version, KPALUMERE_ENTRY_VERSION_WORDS, image, length, 1, 0);
-    EXPECT_COUNT(kpalumere_view, KPALUMERE_VIEW_WORDS, image, length, 1);
+    EXPECT_FEWER(kpalumere_entry_version, 1, KPALUMERE_ENTRY_VERSION_WORDS, image, length, 1, 0);
+    EXPECT_FEWER(kpalumere_view, 1, KPALUMERE_VIEW_WORDS, image, length, 1);
     EXPECT_COUNT(kpalumere_view_entry, KPALUMERE_VIEW_ENTRY_WORDS, image, length, 0x200, 0);
-    EXPECT_COUNT(kpalumere_view_part, KPALUMERE_VIEW_PART_WORDS, image, length, 0x200, 0);
-    EXPECT_COUNT(kpalumere_view_version, KPALUMERE_VIEW_VERSION_WORDS, image, length, 0x200, 0);
+    EXPECT_FEWER(kpalumere_view_part, 2, KPALUMERE_VIEW_PART_WORDS, image, length, 0x200, 0);
+    EXPECT_FEWER(kpalumere_view_version, 1, KPALUMERE_VIEW_VERSION_WORDS, image, length, 0x200, 0);
+    EXPECT_COUNT(kpalumere_wrong, KPALUMERE_WRONG_WORDS, image, length, 0x200, 1, 3);
     expect("a table is written", KPALUMERE_ACCEPTED,
            kpalumere_aspt_write(table, sizeof table, aspt_table, KPALUMERE_ASPT_WRITE_WORDS));
     expect("but not of a word fewer", KPALUMERE_SHORT,
@@ -587,9 +698,10 @@ static void check_counts(void)
     EXPECT_COUNT(kpalumere_guid_find, KPALUMERE_GUID_FIND_WORDS, guest, sizeof guest, 5, 6);
     EXPECT_COUNT(kpalumere_guid_entry, KPALUMERE_GUID_ENTRY_WORDS, guest, sizeof guest, 0);
     expect("no word for a directory's total", KPALUMERE_ROOM,
-           kpalumere_extend(image + 0x300, 0x100, 1, 0, 0, 0, 1, words, KPALUMERE_EXTEND_WORDS - 1));
+           kpalumere_extend(image + 0x300, 0x100, 1, 0, 0, 0, 1, words, 0));
     expect("a word for a directory's total", KPALUMERE_ACCEPTED,
-           kpalumere_extend(image + 0x300, 0x100, 1, 0, 0, 0, 1, words, KPALUMERE_EXTEND_WORDS));
+           kpalumere_extend(image + 0x300, 0x100, 1, 0, 0, 0, 1, words, 1));
+    expect("KPALUMERE_EXTEND_WORDS", KPALUMERE_PLACE_WORDS, KPALUMERE_EXTEND_WORDS);
 }
 
 static void check_mailbox(void)
@@ -646,6 +758,8 @@ int main(int argc, char **argv)
     check_view();
     check_view_entries();
     check_directories();
+    check_places();
+    check_wrong();
     check_counts();
     check_build();
     check_build_repeated();

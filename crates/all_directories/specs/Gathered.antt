@@ -5,7 +5,7 @@ use mathlib.Core.List.{List, [], _∷_, _++_}
 use mathlib.Core.Bool.{cond}
 use lib.ListN.{length, take}
 use lib.Dec.{eqb}
-use Rattle.reply.specs.Reply.{Reply, given, refused, alone, then}
+use Rattle.reply.specs.Reply.{Reply, given, refused, carriedOf, then}
 use Rattle.directory.specs.declared.Directory.{Directory}
 use Rattle.efs.specs.declared.Rules.{Rules}
 use Rattle.entries.specs.Entry.{entryOf}
@@ -16,7 +16,7 @@ use Rattle.all_directories.specs.declared.Gathered.the-variants as gathe
 
 -- the directory that entry i of level one leads to
 abbrev pub ledBy : Rules → (image : List ℕ) → Directory → (i : ℕ) → Reply Directory
-ledBy r image d i = levelTwoAt r image (d .place .0) (entryOf (r .kind) image d i)
+ledBy r image d i = levelTwoAt r image d i (entryOf (r .kind) image d i)
 
 -- what entry i of level one adds: the directory that it leads to, or nothing where it is no lead
 unfoldable pub addedBy : Rules → (image : List ℕ) → Directory → (i : ℕ) → Reply (List Entered)
@@ -37,4 +37,4 @@ RowsHeld all rows = (found : List Entered) → all ≡ given found → take (wor
 -- what the answer tells
 abbrev pub toldGathered : Gathered → Reply ℕ
 toldGathered (gathered.Given count) = given count
-toldGathered (gathered.Refused why) = refused (why .number) alone
+toldGathered (gathered.Refused why) = refused (why .number) (carriedOf (why .met))

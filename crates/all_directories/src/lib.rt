@@ -16,12 +16,12 @@ use directory::Directory;
 use directory::DirectoryAnswer;
 use efs::Rules;
 use entries::EntryAnswer;
-use reply::Refusal;
+use reply::Fault;
 
 // What gathering answers: how many directories there are, or the first fault.
 enum Gathered {
     Given(u32),
-    Refused(Refusal),
+    Refused(Fault),
 }
 
 // Puts a directory that is entered behind so many rows. A row is four words, and one word stands before them all.
@@ -45,7 +45,7 @@ fn led_by(image: &[u8], rules: Rules, d: Directory, i: u32) -> DirectoryAnswer
     ensures { λ r. ⌜ toldDirectory r ≡ ledBy rules (now (image .entry)) d i ⌝ }
 {
     match entries::entry_in(image, rules.kind, d, i as usize) {
-        EntryAnswer::Given(e) => flash::level_two_at(image, rules, d.place(), e),
+        EntryAnswer::Given(e) => flash::level_two_at(image, rules, d, i, e),
         EntryAnswer::Refused(why) => DirectoryAnswer::Refused(why),
     }
 }
@@ -102,7 +102,7 @@ fn list_by(image: &[u8], d: Directory, rows: &mut [u64], words: &mut [u64]) -> u
             let end = 1 + 4 * (count as usize);
             lent::put(words, 0, &rows[..end])
         }
-        Gathered::Refused(why) => why.number as u64,
+        Gathered::Refused(why) => lent::put_fault(words, why),
     }
 }
 
@@ -128,6 +128,6 @@ pub fn directories(image: &[u8], words: &mut [u64]) -> u64
 {
     match flash::directory(image, 1) {
         DirectoryAnswer::Given(d) => list(image, d, words),
-        DirectoryAnswer::Refused(why) => why.number as u64,
+        DirectoryAnswer::Refused(why) => lent::put_fault(words, why),
     }
 }

@@ -5,7 +5,7 @@ use Prim.Native.Nat.{ℕ, zero, suc, _+_, _*_, _<_}
 use native.Mathlib.Omega.{arith}
 use lib.ListN.{length, getD, take, drop}
 use lib.Seq.{take-at, drop-append-add}
-use Rattle.reply.specs.Reply.{Reply, given, then}
+use Rattle.reply.specs.Reply.{Reply, Carried, given, refused, inEntry, then, met}
 use Rattle.directory.specs.declared.Directory.{Directory}
 use Rattle.entries.specs.Entry.{entryOf, entryIn}
 use Rattle.entries.specs.Part.{partOf, partIn}
@@ -18,6 +18,11 @@ use Rattle.flash_words.specs.Images.{layDirectory}
 use Rattle.all_entries.specs.AllEntries.{layPartOr, layRow, rowAt, rowsFrom, layEntries}
 use Rattle.all_entries.specs.RowByRow.{RowByRow, RowsAsCalls}
 use Rattle.all_entries.proofs.Rows.{row-at-long, entries-long}
+
+-- where a part was refused is in no word of its row
+row-met : (e : Entry) (here : Carried) (part : Reply Part) → layRow e part ≡ layRow e (met here part)
+row-met e here (given p) = refl
+row-met e here (refused number carried) = refl
 
 module _ (r : Rules) (s : List ℕ) (d : Directory) where
   -- of the rows of m entries from index i on, the eight words from 8 * j are the row of entry k, which is i + j
@@ -35,15 +40,19 @@ module _ (r : Rules) (s : List ℕ) (d : Directory) where
     the-entry : entryAt r s place i ≡ given (entryOf (r .kind) s d i)
     the-entry = ap (λ (x : Reply Directory). then x (λ d. entryIn (r .kind) s d i)) is ∙ entry-acceptance .all (r .kind) s d i h
 
-    the-part : partAt r s place i ≡ partOf (r .kind) (r .window) s (d .place .0) (entryOf (r .kind) s d i)
+    abbrev here : Carried
+    here = inEntry (d .level) i (d .place .0)
+
+    the-part : partAt r s place i ≡ met here (partOf (r .kind) (r .window) s (d .place .0) (entryOf (r .kind) s d i))
     the-part =
         ap (λ (x : Reply Directory). then x (λ d. partIn (r .kind) (r .window) s d i)) is
-        ∙ ap (λ (x : Reply Entry). then x (partOf (r .kind) (r .window) s (d .place .0))) (entry-acceptance .all (r .kind) s d i h)
+        ∙ ap (λ (x : Reply Entry). then x (λ e. met here (partOf (r .kind) (r .window) s (d .place .0) e))) (entry-acceptance .all (r .kind) s d i h)
 
     the-row : take 8 (drop (3 + 8 * i) (layEntries r s d)) ≡ layRow (entryOf (r .kind) s d i) (partAt r s place i)
     the-row =
+        let e = entryOf (r .kind) s d i in
         ap (take 8) (drop-append-add (layDirectory d) (rowsFrom r s d (d .total) 0) (8 * i))
-        ∙ (row-at (d .total) 0 i i (omega arith) h ∙ ap (layRow (entryOf (r .kind) s d i)) (sym the-part))
+        ∙ (row-at (d .total) 0 i i (omega arith) h ∙ (row-met e here (partOf (r .kind) (r .window) s (d .place .0) e) ∙ ap (layRow e) (sym the-part)))
 
 -- a part by its two words
 part-apart : (p q : Part) → layPartOr (given p) ≡ layPartOr (given q) → p ≡ q

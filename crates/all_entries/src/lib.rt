@@ -111,6 +111,6 @@ pub fn view_entries(image: &[u8], place: usize, words: &mut [u64]) -> u64
 {
     match view::check_from(image, Offset::nearest(place)) {
         DirectoryAnswer::Given(d) => put_entries(image, d, words),
-        DirectoryAnswer::Refused(why) => why.number as u64,
+        DirectoryAnswer::Refused(why) => lent::put_fault(words, why),
     }
 }

@@ -9,7 +9,8 @@ use borrow.Author.Tests.{leb-true, ltb-true, eqb-true, eqb-false, not-true}
 use lib.ListN.{length}
 use lib.Dec.{leb, ltb, eqb}
 use Rattle.reply.specs.Reply.{Reply, given, refused, then}
-use Rattle.reply.proofs.ReplyLaws.{past, then-given, one-by, apart}
+use Rattle.reply.specs.Back.{faultBy}
+use Rattle.reply.proofs.ReplyLaws.{past, then-given, one-by, apart, fault-back}
 use Rattle.directory.specs.Directory.{pspKind, mayStand, directoryOf, directoryByCookie}
 use Rattle.entries.specs.Entry.{entryOf, matches, holdsIn}
 use Rattle.directory.specs.Good.{GoodDirectory}
@@ -27,7 +28,7 @@ use Rattle.build.proofs.Cases.{start-room, room-given}
 
 totalBack : Reply ℕ → TotalAnswer
 totalBack (given total) = totalAnswer.Given total
-totalBack (refused number carried) = totalAnswer.Refused (record { number = number })
+totalBack (refused number carried) = totalAnswer.Refused (faultBy number carried)
 
 pub told-apart : ToldApart
 unfolding totalBack
@@ -35,7 +36,7 @@ told-apart = record { total = one-by toldTotal totalBack back }
   where
     back : (x : TotalAnswer) → totalBack (toldTotal x) ≡ x
     back (totalAnswer.Given total) = refl
-    back (totalAnswer.Refused why) = refl
+    back (totalAnswer.Refused why) = ap (λ w. totalAnswer.Refused w) (fault-back why)
 
 -- a level number from 1 to 2 is 1 or 2
 one-or-two : (level : ℕ) → 1 ≤ level → level ≤ 2 → (level ≡ 1) ⊎ (level ≡ 2)

@@ -7,7 +7,7 @@ use lib.Dec.{leb, ltb}
 use Rattle.le.specs.Le.{putBytes, putAt, Number, bytesOf}
 use Rattle.le.specs.Field.{filled}
 use Rattle.fletcher.specs.Fletcher.{fletcherOf}
-use Rattle.reply.specs.Reply.{Reply, given, refused, alone, guard, then}
+use Rattle.reply.specs.Reply.{Reply, given, refused, carriedOf, guard, then}
 use Rattle.directory.specs.Header as header
 use Rattle.directory.specs.Entry as entry
 use Rattle.directory.specs.Directory.{pspKind, cookieOf, mayStand, entryPlace, checksumAt, directoryByCookie}
@@ -82,4 +82,4 @@ extendedBy f s (refused number carried) = s
 -- what the answer tells
 abbrev pub toldTotal : TotalAnswer → Reply ℕ
 toldTotal (totalAnswer.Given total) = given total
-toldTotal (totalAnswer.Refused why) = refused (why .number) alone
+toldTotal (totalAnswer.Refused why) = refused (why .number) (carriedOf (why .met))

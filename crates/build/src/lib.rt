@@ -11,7 +11,7 @@ ghost use Rattle.build.specs.Write.{entryBytes, startOf, startedBy, room
 use directory::Directory;
 use directory::DirectoryAnswer;
 use directory::Kind;
-use reply::Refusal;
+use reply::Fault;
 use window::Offset;
 
 // What a writer is given of an entry: any numbers, since `extend` checks them.
@@ -26,7 +26,7 @@ pub struct Fields {
 // What a writer answers: the total of the directory it leaves, or why it left the buffer as it was.
 pub enum TotalAnswer {
     Given(u32),
-    Refused(Refusal),
+    Refused(Fault),
 }
 
 // The checksum of a directory with no entries.
@@ -42,13 +42,13 @@ pub fn start(buf: &mut [u8], level: u32) -> TotalAnswer
     ensures { λ _. ⌜ now (buf .exit) ≡ startedBy level (now (buf .entry)) (startOf level (now (buf .entry))) ⌝ }
 {
     if level < 1 {
-        return TotalAnswer::Refused(Refusal::RANGE);
+        return TotalAnswer::Refused(Fault::RANGE);
     }
     if 2 < level {
-        return TotalAnswer::Refused(Refusal::RANGE);
+        return TotalAnswer::Refused(Fault::RANGE);
     }
     if buf.len() < Directory::HEADER {
-        return TotalAnswer::Refused(Refusal::ROOM);
+        return TotalAnswer::Refused(Fault::ROOM);
     }
     le::put32(
         buf,
@@ -68,24 +68,24 @@ fn room_for(buf: &[u8], d: Directory, f: Fields) -> TotalAnswer
     let kind = directory::psp_kind();
     let n = d.total();
     if 0x3FFF_FFFF_FFFF_FFFF < f.location {
-        return TotalAnswer::Refused(Refusal::FIELD);
+        return TotalAnswer::Refused(Fault::FIELD);
     }
     if 3 < f.mode {
-        return TotalAnswer::Refused(Refusal::FIELD);
+        return TotalAnswer::Refused(Fault::FIELD);
     }
     if directory::may_stand(kind, d.level(), f.class) {
         if entries::holds_in(buf, kind, d, f.class, f.subprogram) {
-            return TotalAnswer::Refused(Refusal::REPEATED);
+            return TotalAnswer::Refused(Fault::REPEATED);
         }
         if LIMIT <= n {
-            return TotalAnswer::Refused(Refusal::LIMITS);
+            return TotalAnswer::Refused(Fault::LIMITS);
         }
         if buf.len() < Directory::HEADER + (n as usize) * ENTRY + ENTRY {
-            return TotalAnswer::Refused(Refusal::ROOM);
+            return TotalAnswer::Refused(Fault::ROOM);
         }
         TotalAnswer::Given(n + 1)
     } else {
-        TotalAnswer::Refused(Refusal::MISPLACED)
+        TotalAnswer::Refused(Fault::MISPLACED)
     }
 }
 

@@ -7,7 +7,7 @@ use borrow.Author.Tests.{le-leb}
 use lib.ListN.{length, drop}
 use lib.Seq.{getD-drop}
 use Rattle.le.specs.Le.{Bytes}
-use Rattle.reply.specs.Reply.{given}
+use Rattle.reply.specs.Reply.{given, inEntry, met}
 use Rattle.reply.proofs.ReplyLaws.{then-given}
 use Rattle.directory.specs.Directory.{pspKind, totalAt, directoryOf, directoryAt, directoryByCookie}
 use Rattle.directory.specs.Good.{GoodDirectory}
@@ -114,9 +114,9 @@ module _ (r : Rules) (image : List ℕ) (psp : PspRules r) (bytes : Bytes image)
       let a = at level image o d bytes (wider pspKind (r .limit) 512 level image o d (psp .limit) (ap (λ (kind : Kind). directoryAt kind (r .limit) level image o) (sym (psp .kind)) ∙ e)) in
       (a .1, a .2)
 
-  led : (o : ℕ) (e : Entry) (d : Directory) → levelTwoAt r image o e ≡ given d → (d .level ≡ 2) × WrittenAgain image d
-  led o e d q =
-      let t = then-given (leadsTo (r .window) image o e) (λ p. directoryAt (r .kind) (r .limit) 2 image (p .0)) q in
+  led : (above : Directory) (i : ℕ) (e : Entry) (d : Directory) → levelTwoAt r image above i e ≡ given d → (d .level ≡ 2) × WrittenAgain image d
+  led above i e d q =
+      let t = then-given (met (inEntry (above .level) i (above .place .0)) (leadsTo (r .window) image (above .place .0) e)) (λ p. directoryAt (r .kind) (r .limit) 2 image (p .0)) q in
       by-rules 2 (t .0 .0) d (t .2)
 
   flash : (level : ℕ) (d : Directory) → flashDirectory r level image ≡ given d → (d .level ≡ level) × WrittenAgain image d
@@ -127,14 +127,14 @@ module _ (r : Rules) (image : List ℕ) (psp : PspRules r) (bytes : Bytes image)
           let t = then-given (pointerIn r image) (λ p. directoryAt (r .kind) (r .limit) 1 image (p .place .0)) q in
           by-rules 1 (t .0 .place .0) d (t .2)
       by (two above a q) =
-          let t = then-given (leadIn (r .kind) image above) (levelTwoAt r image (above .place .0)) q in
-          led (above .place .0) (t .0) d (t .2)
+          let t = then-given (leadIn (r .kind) image above) (λ l. levelTwoAt r image above (l .index) (l .entry)) q in
+          led above (t .0 .index) (t .0 .entry) d (t .2)
 
 pub accepted-again : AcceptedAgain
 accepted-again = record {
   at = at;
   by-cookie = by-cookie;
   flash = λ r level image d psp bytes. flash r image psp bytes level d;
-  led = λ r image o e d psp bytes. led r image psp bytes o e d;
+  led = λ r image above i e d psp bytes. led r image psp bytes above i e d;
   rules = λ image. record { kind = refl; limit = omega arith };
 }

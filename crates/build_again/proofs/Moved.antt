@@ -17,7 +17,7 @@ use Rattle.directory.specs.Directory.{totalAt, entryPlace, sameEntry, mayRepeat
 use Rattle.directory.specs.declared.Kind.{Kind}
 use Rattle.directory.specs.declared.Directory.{Directory}
 use Rattle.entries.specs.Entry.{fieldsAt, entryOf}
-use Rattle.build_again.specs.Again.{fromStart, toldFromStart, ReadAlone}
+use Rattle.build_again.specs.Again.{fromStart, metFromStart, toldFromStart, ReadAlone}
 
 -- a number
 pub le-drop : (n : ℕ) (s : List ℕ) (o p : ℕ) → leAt n (drop o s) p ≡ leAt n s (o + p)
@@ -35,8 +35,8 @@ room-drop s o m one = by (leb (o + m) (length s)) refl
     by true e = le-leb m (length (drop o s)) (let h = leb-true (o + m) (length s) e in omega (arith, length-drop o s))
     by false e = lt-leb m (length (drop o s)) (let h = leb-false (o + m) (length s) e in omega (arith, length-drop o s))
 
--- what is told of the checks before a reply stays
-told-check : (b : Bool) (number : ℕ) (carried : Carried) (rest : Reply Directory) → toldFromStart (check b number carried rest) ≡ check b number carried (toldFromStart rest)
+-- the checks before a reply stay, but for the place that they carry
+told-check : (b : Bool) (number : ℕ) (carried : Carried) (rest : Reply Directory) → toldFromStart (check b number carried rest) ≡ check b number (metFromStart carried) (toldFromStart rest)
 told-check true number carried rest = refl
 told-check false number carried rest = refl
 

@@ -4,7 +4,7 @@ use mathlib.Core.Path.{_≡_}
 use mathlib.Core.List.{List, _++_}
 use lib.ListN.{length, take, drop}
 use Rattle.le.specs.Le.{Bytes}
-use Rattle.reply.specs.Reply.{Reply, given, refused}
+use Rattle.reply.specs.Reply.{Reply, Carried, given, refused, alone, tested, inHeader, inEntry}
 use Rattle.directory.specs.Directory.{pspKind, directoryOf, directoryAt, directoryByCookie}
 use Rattle.directory.specs.declared.Kind.{Kind}
 use Rattle.directory.specs.declared.Directory.{Directory}
@@ -16,13 +16,19 @@ use Rattle.flash.specs.Flash.{levelTwoAt, flashDirectory}
 use Rattle.build.specs.Write.{directoryBytes}
 use Rattle.build.specs.Back.{entriesOf, buildOf}
 
--- a directory, told as if it began at 0; a refusal stays as it is
+-- a directory, told as if it began at 0; so is the directory that a refusal was met in, and the rest of a refusal stays
 abbrev pub fromStart : Directory → Directory
 fromStart d = directoryOf 0 (d .level) (d .total)
 
+abbrev pub metFromStart : Carried → Carried
+metFromStart alone = alone
+metFromStart (tested count) = tested count
+metFromStart (inHeader level directory) = inHeader level 0
+metFromStart (inEntry level index directory) = inEntry level index 0
+
 abbrev pub toldFromStart : Reply Directory → Reply Directory
 toldFromStart (given d) = given (fromStart d)
-toldFromStart (refused number carried) = refused number carried
+toldFromStart (refused number carried) = refused number (metFromStart carried)
 
 -- the bytes before a directory have no part in it, nor has their number: what is answered at o is what is answered at the start of the bytes from o on
 pub record ReadAlone : Type 0 where
@@ -62,6 +68,6 @@ pub record AcceptedAgain : Type 0 where
   -- of level one by the directory pointer, or of level two by the lowest lead
   pub flash : (r : Rules) (level : ℕ) (image : List ℕ) (d : Directory) → PspRules r → Bytes image → flashDirectory r level image ≡ given d → (d .level ≡ level) × WrittenAgain image d
   -- of level two by any lead, as the lookup in the whole image enters it
-  pub led : (r : Rules) (image : List ℕ) (o : ℕ) (e : Entry) (d : Directory) → PspRules r → Bytes image → levelTwoAt r image o e ≡ given d → (d .level ≡ 2) × WrittenAgain image d
+  pub led : (r : Rules) (image : List ℕ) (above : Directory) (i : ℕ) (e : Entry) (d : Directory) → PspRules r → Bytes image → levelTwoAt r image above i e ≡ given d → (d .level ≡ 2) × WrittenAgain image d
   -- the rules of every image are such
   pub rules : (image : List ℕ) → PspRules (rulesOf image)

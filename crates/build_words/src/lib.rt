@@ -1,11 +1,14 @@
 // Directories, started and extended in a lent buffer; the new total goes into lent words.
 ghost use mathlib.Core.Path.{_≡_};
 ghost use mathlib.Core.List.{[]};
-ghost use Rattle.lent.specs.Lent.{numberOf, numberLeft, wordsLeft, bytesLeft, layNumber};
+ghost use Rattle.reply.specs.Reply.{carriedOf};
+ghost use Rattle.lent.specs.Lent.{layCarried, numberOf, numberFor, numberLeft, wordsLeft, bytesLeft, layNumber};
 ghost use Rattle.build.specs.Write.{startOf, startedBy, extendOf, extendedBy};
 ghost use Rattle.build_words.specs.Writing.{fieldsFor};
 use build::Fields;
 use build::TotalAnswer;
+use reply::Fault;
+use reply::Met;
 
 // No words: a start gives nothing but the directory that it writes.
 pub fn start(buf: &mut [u8], level: u32) -> u64
@@ -18,13 +21,32 @@ pub fn start(buf: &mut [u8], level: u32) -> u64
     }
 }
 
+// The number of a fault where there is no word to tell where it was met.
+fn number_without_words(why: Fault) -> u64
+    ensures { λ r. ⌜ r ≡ numberFor (why .number) (layCarried (carriedOf (why .met))) [] ⌝ }
+{
+    let place = why.met;
+    match place {
+        Met::Alone => why.number as u64,
+        Met::Header {
+            level: _,
+            directory: _,
+        } => 12,
+        Met::Entry {
+            level: _,
+            index: _,
+            directory: _,
+        } => 12,
+    }
+}
+
 // The number of an extend that has no word to write the new total into: nothing is written.
 fn extend_without_words(buf: &[u8], f: Fields) -> u64
     ensures { λ r. ⌜ r ≡ numberLeft layNumber (extendOf f (now (buf .entry))) [] ⌝ }
 {
     match build::admit(buf, f) {
         TotalAnswer::Given(_) => 12,
-        TotalAnswer::Refused(why) => why.number as u64,
+        TotalAnswer::Refused(why) => number_without_words(why),
     }
 }
 
@@ -57,6 +79,6 @@ pub fn extend(
             let values = [total as u64];
             lent::put(words, 0, &values)
         }
-        TotalAnswer::Refused(why) => why.number as u64,
+        TotalAnswer::Refused(why) => lent::put_fault(words, why),
     }
 }

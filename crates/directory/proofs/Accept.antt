@@ -9,7 +9,7 @@ use borrow.Author.Tests.{leb-true, ltb-true, eqb-true, eqb-false, not-true, le-l
 use lib.ListN.{length, getD}
 use lib.Dec.{leb, ltb, eqb}
 use Rattle.le.specs.Le.{leAt}
-use Rattle.reply.specs.Reply.{Reply, given, refused, alone}
+use Rattle.reply.specs.Reply.{Reply, given, refused, inHeader}
 use Rattle.reply.proofs.ReplyLaws.{past, passed, failed, clash}
 use Rattle.reply.proofs.ScanLaws.{scan-kept, scan-through}
 use Rattle.directory.specs.Directory.{cookieOf, totalAt, entryPlace, checksumAt, reservedZero, classAt, mayStand, mayRepeat, entryStep, directoryOf, entriesAt, directoryChecks, directoryAt, directoryByCookie}
@@ -120,11 +120,11 @@ module _ (kind : Kind) (limit : ℕ) (s : List ℕ) where
   unfolding directoryByCookie
   only-cookie o d e = one (eqb (leAt 4 s (o + 0)) (kind .one)) (past (leb (o + 16) (length s)) _ _ _ e .1)
     where
-      two : (b : Bool) → cond b (directoryAt kind limit 2 s o) (refused 2 alone) ≡ given d → GoodDirectory kind limit s d × (d .place .0 ≡ o)
+      two : (b : Bool) → cond b (directoryAt kind limit 2 s o) (refused 2 (inHeader 0 o)) ≡ given d → GoodDirectory kind limit s d × (d .place .0 ≡ o)
       two true h = let g = only-good kind limit 2 s o d h in (g .0, g .1)
       two false h = clash h
 
-      one : (b : Bool) → cond b (directoryAt kind limit 1 s o) (cond (eqb (leAt 4 s (o + 0)) (kind .two)) (directoryAt kind limit 2 s o) (refused 2 alone)) ≡ given d →
+      one : (b : Bool) → cond b (directoryAt kind limit 1 s o) (cond (eqb (leAt 4 s (o + 0)) (kind .two)) (directoryAt kind limit 2 s o) (refused 2 (inHeader 0 o))) ≡ given d →
           GoodDirectory kind limit s d × (d .place .0 ≡ o)
       one true h = let g = only-good kind limit 1 s o d h in (g .0, g .1)
       one false h = two (eqb (leAt 4 s (o + 0)) (kind .two)) h

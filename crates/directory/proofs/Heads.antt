@@ -49,9 +49,10 @@ module _ (kind : Kind) (s : List ℕ) (o : ℕ) (bytes : Bytes s) where
           by false e q f = ne-eqb (t + 256 * a) (u + 256 * b) (λ z. eqb-false t u e (omega arith))
 
   -- by the marks of the types and subprograms before it
-  pub mark-tells : (words i : ℕ) (marks : List ℕ) → headAt kind s o i % 65536 < words * 64 → Marks words (λ j. headAt kind s o j % 65536) i marks →
-      bitOf (keptAs (getD marks (headAt kind s o i % 65536 / 64) 0)) (headAt kind s o i % 65536 % 64) ≡ repeatsEarlier kind s o i
-  mark-tells words i marks h m = m (headAt kind s o i % 65536) h ∙ some-same _ _ i (λ j l. same-pair i j)
+  pub mark-tells : (words i p w : ℕ) (marks : List ℕ) → p ≡ headAt kind s o i % 65536 → p < words * 64 → w ≡ p / 64 → Marks words (λ j. headAt kind s o j % 65536) i marks →
+      bitOf (keptAs (getD marks w 0)) (p % 64) ≡ repeatsEarlier kind s o i
+  mark-tells words i p w marks is small at m =
+      ap (λ (x : ℕ). bitOf (keptAs (getD marks x 0)) (p % 64)) at ∙ m p small ∙ some-same _ _ i (λ j l. ap (eqb (headAt kind s o j % 65536)) is ∙ same-pair i j)
 
 -- the test of an entry of a directory that may not repeat
 module _ (kind : Kind) (s : List ℕ) (o i : ℕ) where

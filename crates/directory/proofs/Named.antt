@@ -4,11 +4,11 @@ use mathlib.Core.List.{List}
 use mathlib.Core.Bool.{Bool, true, false, not, cond, _&&_, _||_, and-eq-true-iff}
 use Prim.Native.Nat.{ℕ, zero, suc, _+_, _<_, _≤_}
 use native.Mathlib.Omega.{arith}
-use borrow.Author.Tests.{eqb-true, eq-eqb, ltb-true}
+use borrow.Author.Tests.{eqb-true, eq-eqb, leb-true, ltb-true}
 use lib.ListN.{length, getD}
 use lib.Dec.{leb, ltb, eqb}
 use Rattle.le.specs.Le.{leAt}
-use Rattle.reply.specs.Reply.{Reply, Carried, given, refused, alone, guard}
+use Rattle.reply.specs.Reply.{Reply, Carried, given, refused, alone, inEntry, check}
 use Rattle.reply.specs.Scan.{scan}
 use Rattle.reply.specs.Some.{someBelow, firstBelow}
 use Rattle.reply.proofs.ReplyLaws.{clash, apart}
@@ -21,9 +21,9 @@ use Rattle.directory.specs.declared.Directory.{Directory}
 use Rattle.directory.specs.declared.Repeat.{Repeat}
 
 -- a refusal with 18 is not of a check with another number
-past-18 : {A : Type 0} {c : Carried} (b : Bool) (number : ℕ) (rest : Reply A) → (number ≡ 18 → ⊥) → guard b number rest ≡ refused 18 c → rest ≡ refused 18 c
-past-18 true number rest n e = e
-past-18 false number rest n e = absurd (n (let z : number ≡ 18 = cc in z))
+past-18 : {A : Type 0} {c : Carried} (b : Bool) (number : ℕ) (here : Carried) (rest : Reply A) → (number ≡ 18 → ⊥) → check b number here rest ≡ refused 18 c → (b ≡ true) × (rest ≡ refused 18 c)
+past-18 true number here rest n e = (refl, e)
+past-18 false number here rest n e = absurd (n (let z : number ≡ 18 = cc in z))
 
 module _ (kind : Kind) (level : ℕ) (s : List ℕ) (o : ℕ) (c : Carried) where
   -- some entry stops the entries with 18
@@ -32,9 +32,11 @@ module _ (kind : Kind) (level : ℕ) (s : List ℕ) (o : ℕ) (c : Carried) wher
   unfolding scan
   stopped last never zero i e = absurd (never i e)
   stopped last never (suc m) i e =
-      by (mayRepeat kind s o i) refl (past-18 (mayStand kind level (classAt kind s o i)) 14 _ (λ z. omega arith) (past-18 (reservedZero kind s o i) 5 _ (λ z. omega arith) e)) (stopped last never m (i + 1))
+      let reserved = past-18 (reservedZero kind s o i) 5 _ _ (λ z. omega arith) e in
+      let stands = past-18 (mayStand kind level (classAt kind s o i)) 14 _ _ (λ z. omega arith) (reserved .1) in
+      by (mayRepeat kind s o i) refl (stands .1) (stopped last never m (i + 1))
     where
-      by : (b : Bool) → mayRepeat kind s o i ≡ b → guard b 18 (scan (entryStep kind level s o) last m (i + 1)) ≡ refused 18 c →
+      by : (b : Bool) → mayRepeat kind s o i ≡ b → check b 18 (inEntry level i o) (scan (entryStep kind level s o) last m (i + 1)) ≡ refused 18 c →
           (scan (entryStep kind level s o) last m (i + 1) ≡ refused 18 c → (k : ℕ) × (i + 1 ≤ k) × (k < i + 1 + m) × (mayRepeat kind s o k ≡ false)) → (k : ℕ) × (i ≤ k) × (k < i + suc m) × (mayRepeat kind s o k ≡ false)
       by true q f r = let w = r f in let l = w .1 in let h = w .2 in (w .0, omega arith, omega arith, w .3)
       by false q f r = (i, omega arith, omega arith, q)
@@ -46,18 +48,27 @@ not-may false true e = refl
 not-may false false e = apart refl e
 
 module _ (kind : Kind) (limit level : ℕ) (s : List ℕ) (o : ℕ) (c : Carried) where
-  some-repeats : directoryAt kind limit level s o ≡ refused 18 c → someBelow (repeatsEarlier kind s o) (totalAt s o) ≡ true
+  -- a directory that is refused with 18 has its entries in the image, and one of them stops it
+  at-entries : directoryAt kind limit level s o ≡ refused 18 c → (entryPlace kind o (totalAt s o) ≤ length s) × (entriesAt kind level s o (totalAt s o) ≡ refused 18 c)
   unfolding directoryChecks
+  at-entries e =
+      let n = totalAt s o in
+      let e0 = past-18 (leb level 2) 9 _ _ (λ z. omega arith) (past-18 (leb 1 level) 9 _ _ (λ z. omega arith) e .1) in
+      let e1 = past-18 (leb (o + 16) (length s)) 1 _ _ (λ z. omega arith) (e0 .1) in
+      let e2 = past-18 (eqb (leAt 4 s (o + 0)) (cookieOf kind level)) 2 _ _ (λ z. omega arith) (e1 .1) in
+      let e3 = past-18 (leb n limit) 3 _ _ (λ z. omega arith) (e2 .1) in
+      let e4 = past-18 (leb (entryPlace kind o n) (length s)) 1 _ _ (λ z. omega arith) (e3 .1) in
+      let e5 = past-18 (eqb (leAt 4 s (o + 4)) (checksumAt kind s o n)) 4 _ _ (λ z. omega arith) (e4 .1) in
+      let e6 = past-18 (eqb (leAt 4 s (o + 12)) 0) 5 _ _ (λ z. omega arith) (e5 .1) in
+      (leb-true _ _ (e4 .0), e6 .1)
+
+  pub entries-present : directoryAt kind limit level s o ≡ refused 18 c → entryPlace kind o (totalAt s o) ≤ length s
+  entries-present e = at-entries e .0
+
+  some-repeats : directoryAt kind limit level s o ≡ refused 18 c → someBelow (repeatsEarlier kind s o) (totalAt s o) ≡ true
   some-repeats e =
       let n = totalAt s o in
-      let e0 = past-18 (leb level 2) 9 _ (λ z. omega arith) (past-18 (leb 1 level) 9 _ (λ z. omega arith) e) in
-      let e1 = past-18 (leb (o + 16) (length s)) 1 _ (λ z. omega arith) e0 in
-      let e2 = past-18 (eqb (leAt 4 s (o + 0)) (cookieOf kind level)) 2 _ (λ z. omega arith) e1 in
-      let e3 = past-18 (leb n limit) 3 _ (λ z. omega arith) e2 in
-      let e4 = past-18 (leb (entryPlace kind o n) (length s)) 1 _ (λ z. omega arith) e3 in
-      let e5 = past-18 (eqb (leAt 4 s (o + 4)) (checksumAt kind s o n)) 4 _ (λ z. omega arith) e4 in
-      let e6 = past-18 (eqb (leAt 4 s (o + 12)) 0) 5 _ (λ z. omega arith) e5 in
-      let w = stopped kind level s o c (λ _. given (directoryOf o level n)) (λ i z. clash (sym z)) n 0 e6 in
+      let w = stopped kind level s o c (λ _. given (directoryOf o level n)) (λ i z. clash (sym z)) n 0 (at-entries e .1) in
       some-true (repeatsEarlier kind s o) n (w .0) (let l = w .2 in omega arith) (not-may (kind .repeats) (repeatsEarlier kind s o (w .0)) (w .3))
 
 module _ (kind : Kind) (s : List ℕ) (o n : ℕ) where

@@ -10,12 +10,12 @@ use lib.ListN.{getD}
 use lib.Pow.{pow-pos}
 use lib.Dec.{ltb, eqb}
 use Rattle.le.specs.Le.{Bytes, bitsFrom}
-use Rattle.reply.specs.Reply.{Reply, given, refused, alone}
-use Rattle.reply.specs.Scan.{scan, Lowest}
+use Rattle.reply.specs.Reply.{Reply, given, refused, inEntry}
+use Rattle.reply.specs.Scan.{scan}
 use Rattle.reply.specs.Some.{someBelow, firstBelow}
 use Rattle.reply.proofs.ReplyLaws.{passed, failed, apart}
 use Rattle.reply.proofs.ScanLaws.{scan-start, scan-end, scan-stop, scan-pass}
-use Rattle.reply.proofs.SomeLaws.{none-below, some-lowest, Found}
+use Rattle.reply.proofs.SomeLaws.{none-below, some-same, some-first, Found, first-found}
 use Rattle.directory.specs.Directory.{entryPlace, classAt, reservedZero, mayStand, repeatsEarlier, mayRepeat, entryStep, directoryOf, entriesAt}
 use Rattle.directory.specs.Looks.{headAt, flagsUsed, clearBelow, faultyHead, faultyAt, badAt, endedAt}
 use Rattle.directory.specs.declared.Kind.{Kind}
@@ -92,7 +92,7 @@ module _ (kind : Kind) (level : ℕ) (s : List ℕ) (o n : ℕ) (bytes : Bytes s
       let g = both-pass _ _ f in
       passed _ _ _ _ (sym (reserved-is i) ∙ g .0) ∙ passed _ _ _ _ (sym (stand-is i) ∙ g .1) ∙ passed _ _ _ _ m
 
-  repeated : (i : ℕ) → faultyAt kind level s o i ≡ false → mayRepeat kind s o i ≡ false → (rest : Reply Directory) → entryStep kind level s o i rest ≡ refused 18 alone
+  repeated : (i : ℕ) → faultyAt kind level s o i ≡ false → mayRepeat kind s o i ≡ false → (rest : Reply Directory) → entryStep kind level s o i rest ≡ refused 18 (inEntry level i o)
   repeated i f m rest =
       let g = both-pass _ _ f in
       passed _ _ _ _ (sym (reserved-is i) ∙ g .0) ∙ passed _ _ _ _ (sym (stand-is i) ∙ g .1) ∙ failed _ _ _ _ m
@@ -108,21 +108,21 @@ module _ (kind : Kind) (level : ℕ) (s : List ℕ) (o n : ℕ) (bytes : Bytes s
 
   -- the answer at entry k
   stop : (k number : ℕ) → k < n → ((j : ℕ) → j < k → faultyAt kind level s o j ≡ false) → ((j : ℕ) → j < k → mayRepeat kind s o j ≡ true) →
-      ((rest : Reply Directory) → entryStep kind level s o k rest ≡ refused number alone) → refused number alone ≡ entriesAt kind level s o n
+      ((rest : Reply Directory) → entryStep kind level s o k rest ≡ refused number (inEntry level k o)) → refused number (inEntry level k o) ≡ entriesAt kind level s o n
   stop k number h f m e =
-      sym (scan-stop (entryStep kind level s o) (λ _. given (directoryOf o level n)) n k (refused number alone) h e) ∙ reach k (omega arith) f m
+      sym (scan-stop (entryStep kind level s o) (λ _. given (directoryOf o level n)) n k (refused number (inEntry level k o)) h e) ∙ reach k (omega arith) f m
 
   -- by the first that is at fault by itself, where those before it may stand
   ends : (end : ℕ) → end ≤ n → ((j : ℕ) → j < end → faultyAt kind level s o j ≡ false) → (end < n → faultyAt kind level s o end ≡ true) →
       ((j : ℕ) → j < end → mayRepeat kind s o j ≡ true) → endedAt kind level s o n end ≡ entriesAt kind level s o n
   ends end h f g m = by (ltb end n) refl
     where
-      at-end : (b : Bool) → reservedZero kind s o end ≡ b → end < n → refused (cond b 14 5) alone ≡ entriesAt kind level s o n
+      at-end : (b : Bool) → reservedZero kind s o end ≡ b → end < n → refused (cond b 14 5) (inEntry level end o) ≡ entriesAt kind level s o n
       at-end true q l =
           stop end 14 l f m (λ rest. passed _ _ _ _ q ∙ failed _ _ _ _ (sym (stand-is end) ∙ one-fails _ _ (g l) (reserved-is end ∙ q)))
       at-end false q l = stop end 5 l f m (λ rest. failed _ _ _ _ q)
 
-      by : (b : Bool) → ltb end n ≡ b → cond b (refused (cond (reservedZero kind s o end) 14 5) alone) (given (directoryOf o level n)) ≡ entriesAt kind level s o n
+      by : (b : Bool) → ltb end n ≡ b → cond b (refused (cond (reservedZero kind s o end) 14 5) (inEntry level end o)) (given (directoryOf o level n)) ≡ entriesAt kind level s o n
       by true q = at-end (reservedZero kind s o end) refl (ltb-true _ _ q)
       by false q =
           sym (scan-end (entryStep kind level s o) (λ _. given (directoryOf o level n)) n end (ltb-false end n q)) ∙ reach end h f m
@@ -141,22 +141,12 @@ module _ (kind : Kind) (level : ℕ) (s : List ℕ) (o n : ℕ) (bytes : Bytes s
       let good : (j : ℕ) → j < n → (faultyAt kind level s o j ≡ false) × (repeatsEarlier kind s o j ≡ false) = λ j l. or-false (faultyAt kind level s o j) (repeatsEarlier kind s o j) (none-below (badAt kind level s o) n e j l) in
       ends n (omega arith) (λ j l. good j l .0) (λ l. absurd (let z : ⊥ = omega arith in z)) (λ j l. may-first kind s o j (good j l .1))
 
-  -- one before the first that is at fault by itself repeats
-  pub ends-repeated : (end : ℕ) → end ≤ n → ((j : ℕ) → j < end → faultyAt kind level s o j ≡ false) → kind .repeats ≡ false → someBelow (badAt kind level s o) end ≡ true →
-      refused 18 alone ≡ entriesAt kind level s o n
-  ends-repeated end h f r e = by (some-lowest (badAt kind level s o) end e)
-    where
-      apart-bad : (a b : Bool) → a ≡ false → (a || b) ≡ true → b ≡ true
-      apart-bad true b q t = apart refl q
-      apart-bad false b q t = t
-
-      clean : (a b : Bool) → ((a || b) ≡ true → ⊥) → b ≡ false
-      clean true b q = absurd (q refl)
-      clean false true q = absurd (q refl)
-      clean false false q = refl
-
-      by : (k : ℕ) × Lowest (λ j. badAt kind level s o j ≡ true) end k → refused 18 alone ≡ entriesAt kind level s o n
-      by (k, l) =
-          let i = l .inside in
-          stop k 18 (omega arith) (λ j a. f j (omega arith)) (λ j a. may-first kind s o j (clean (faultyAt kind level s o j) (repeatsEarlier kind s o j) (l .earlier j a)))
-          (repeated k (f k i) (may-not kind s o k r (apart-bad (faultyAt kind level s o k) (repeatsEarlier kind s o k) (f k i) (l .here))))
+  -- one before the first that is at fault by itself repeats: the first that does is told
+  pub ends-repeated : (end : ℕ) → Found (faultyAt kind level s o) n end → kind .repeats ≡ false → someBelow (badAt kind level s o) end ≡ true →
+      refused 18 (inEntry level (firstBelow (repeatsEarlier kind s o) end) o) ≡ entriesAt kind level s o n
+  ends-repeated end f r e =
+      let k = firstBelow (repeatsEarlier kind s o) end in
+      let first = first-found (repeatsEarlier kind s o) end in
+      let repeats = some-same (repeatsEarlier kind s o) (badAt kind level s o) end (λ j l. ap (λ (b : Bool). b || repeatsEarlier kind s o j) (sym (f .before j l))) ∙ e in
+      let inside : k < end = ltb-true k end (sym (some-first (repeatsEarlier kind s o) end) ∙ repeats) in
+      stop k 18 (let h = f .within in omega arith) (λ j l. f .before j (omega arith)) (λ j l. may-first kind s o j (first .before j l)) (repeated k (f .before k inside) (may-not kind s o k r (first .here inside)))

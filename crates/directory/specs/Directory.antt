@@ -7,7 +7,7 @@ use lib.Dec.{leb, eqb}
 use Rattle.le.specs.Le.{bitsFrom}
 use Rattle.le.specs.Field.{get}
 use Rattle.fletcher.specs.Fletcher.{fletcherOf}
-use Rattle.reply.specs.Reply.{Reply, given, refused, alone, guard}
+use Rattle.reply.specs.Reply.{Reply, given, refused, inHeader, inEntry, carriedOf, check, guard}
 use Rattle.reply.specs.Scan.{scan}
 use Rattle.reply.specs.Some.{someBelow}
 use Rattle.directory.specs.Header as header
@@ -64,12 +64,13 @@ repeatsEarlier kind image o i = someBelow (sameEntry kind image o i) i
 abbrev pub mayRepeat : Kind → (image : List ℕ) → (o i : ℕ) → Bool
 mayRepeat kind image o i = kind .repeats || not (repeatsEarlier kind image o i)
 
--- the tests made at entry i, then the entries behind it
+-- the tests made at entry i, then the entries behind it; a refusal carries the entry
 abbrev pub entryStep : {A : Type 0} → Kind → (level : ℕ) → (image : List ℕ) → (o i : ℕ) → (rest : Reply A) → Reply A
 entryStep kind level image o i rest =
-    guard (reservedZero kind image o i) 5  -- reserved zero (5)
-    (guard (mayStand kind level (classAt kind image o i)) 14  -- misplaced 0x40 (14)
-    (guard (mayRepeat kind image o i) 18  -- repeats an earlier type and subprogram (18)
+    let here = inEntry level i o in
+    check (reservedZero kind image o i) 5 here  -- reserved zero (5)
+    (check (mayStand kind level (classAt kind image o i)) 14 here  -- misplaced 0x40 (14)
+    (check (mayRepeat kind image o i) 18 here  -- repeats an earlier type and subprogram (18)
     rest))
 
 -- a directory that is given: where it begins, its level, its total
@@ -80,31 +81,32 @@ directoryOf o level n = record { place = record { 0 = o }; level = level; total 
 abbrev pub entriesAt : Kind → (level : ℕ) → (image : List ℕ) → (o n : ℕ) → Reply Directory
 entriesAt kind level image o n = scan (entryStep kind level image o) (λ _. given (directoryOf o level n)) n 0
 
--- the checks of a directory of level one or two at o, whose total is at most `limit` (512)
+-- the checks of a directory of level one or two at o, whose total is at most `limit` (512); the header's refusals carry the level
 unfoldable pub directoryChecks : Kind → (limit level : ℕ) → (image : List ℕ) → (o : ℕ) → Reply Directory
 directoryChecks kind limit level image o =
     let n = totalAt image o in
-    guard (leb (o + header.bytes) (length image)) 1  -- 16 bytes present (1)
-    (guard (eqb (get header.cookie image o) (cookieOf kind level)) 2  -- cookie of the level asked for (2)
-    (guard (leb n limit) 3  -- n at most 512 (3)
-    (guard (leb (entryPlace kind o n) (length image)) 1  -- all entries present (1)
-    (guard (eqb (get header.checksum image o) (checksumAt kind image o n)) 4  -- checksum (4)
-    (guard (eqb (get header.reserved image o) 0) 5  -- header reserved zero (5)
+    let here = inHeader level o in
+    check (leb (o + header.bytes) (length image)) 1 here  -- 16 bytes present (1)
+    (check (eqb (get header.cookie image o) (cookieOf kind level)) 2 here  -- cookie of the level asked for (2)
+    (check (leb n limit) 3 here  -- n at most 512 (3)
+    (check (leb (entryPlace kind o n) (length image)) 1 here  -- all entries present (1)
+    (check (eqb (get header.checksum image o) (checksumAt kind image o n)) 4 here  -- checksum (4)
+    (check (eqb (get header.reserved image o) 0) 5 here  -- header reserved zero (5)
     (entriesAt kind level image o n))))))  -- then entry by entry (5, 14, 18)
 
 -- the directory of a level at o: the level number (9), then its checks
 abbrev pub directoryAt : Kind → (limit level : ℕ) → (image : List ℕ) → (o : ℕ) → Reply Directory
 directoryAt kind limit level image o = guard (leb 1 level) 9 (guard (leb level 2) 9 (directoryChecks kind limit level image o))
 
--- the directory at o of the level that its cookie names
+-- the directory at o of the level that its cookie names; 0 where none does
 unfoldable pub directoryByCookie : Kind → (limit : ℕ) → (image : List ℕ) → (o : ℕ) → Reply Directory
 directoryByCookie kind limit image o =
-    guard (leb (o + header.bytes) (length image)) 1  -- 16 bytes present (1)
+    check (leb (o + header.bytes) (length image)) 1 (inHeader 0 o)  -- 16 bytes present (1)
     (cond (eqb (get header.cookie image o) (kind .one)) (directoryAt kind limit 1 image o)
     (cond (eqb (get header.cookie image o) (kind .two)) (directoryAt kind limit 2 image o)
-    (refused 2 alone)))  -- neither cookie (2)
+    (refused 2 (inHeader 0 o))))  -- neither cookie (2)
 
 -- what the answer tells
 abbrev pub toldDirectory : DirectoryAnswer → Reply Directory
 toldDirectory (directoryAnswer.Given d) = given d
-toldDirectory (directoryAnswer.Refused why) = refused (why .number) alone
+toldDirectory (directoryAnswer.Refused why) = refused (why .number) (carriedOf (why .met))

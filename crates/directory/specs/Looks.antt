@@ -4,7 +4,7 @@ use mathlib.Core.List.{List}
 use mathlib.Core.Bool.{Bool, not, cond, _&&_, _||_}
 use lib.Dec.{ltb, eqb}
 use Rattle.le.specs.Le.{leAt, bitsFrom}
-use Rattle.reply.specs.Reply.{Reply, given, refused, alone}
+use Rattle.reply.specs.Reply.{Reply, given, refused, inEntry}
 use Rattle.directory.specs.Directory.{entryPlace, reservedZero, mayStand, repeatsEarlier, directoryOf}
 use Rattle.directory.specs.declared.Kind.{Kind}
 use Rattle.directory.specs.declared.Directory.{Directory}
@@ -35,4 +35,4 @@ badAt kind level image o i = faultyAt kind level image o i || repeatsEarlier kin
 
 -- the answer of n entries by the first that is at fault by itself; where there is none, the directory
 abbrev pub endedAt : Kind → (level : ℕ) → (image : List ℕ) → (o n end : ℕ) → Reply Directory
-endedAt kind level image o n end = cond (ltb end n) (refused (cond (reservedZero kind image o end) 14 5) alone) (given (directoryOf o level n))
+endedAt kind level image o n end = cond (ltb end n) (refused (cond (reservedZero kind image o end) 14 5) (inEntry level end o)) (given (directoryOf o level n))

@@ -3,7 +3,7 @@ use Prim.Native.Nat.{ℕ}
 use mathlib.Core.List.{List}
 use mathlib.Core.Bool.{cond}
 use lib.Dec.{eqb}
-use Rattle.reply.specs.Reply.{Reply, given, refused, alone}
+use Rattle.reply.specs.Reply.{Reply, given, refused, alone, carriedOf}
 use Rattle.reply.specs.Some.{firstBelow}
 use Rattle.directory.specs.Directory.{totalAt, classAt, subprogramAt, sameEntry, repeatsEarlier, directoryAt}
 use Rattle.directory.specs.declared.Kind.{Kind}
@@ -40,4 +40,4 @@ repeatedAt kind limit level image o = namedBy kind image o (directoryAt kind lim
 -- what the answer tells
 abbrev pub toldRepeat : RepeatAnswer → Reply Repeat
 toldRepeat (repeatAnswer.Given r) = given r
-toldRepeat (repeatAnswer.Refused why) = refused (why .number) alone
+toldRepeat (repeatAnswer.Refused why) = refused (why .number) (carriedOf (why .met))

@@ -6,12 +6,14 @@ ghost use lib.Dec.{eqb, ltb};
 ghost use mathlib.Core.Bool.{false, _||_};
 ghost use Rattle.le.specs.Le.{bitsFrom};
 ghost use Rattle.le.specs.Field.{get};
-ghost use Rattle.reply.specs.Reply.{guard};
+ghost use Rattle.reply.specs.Reply.{inHeader, check};
 ghost use Rattle.reply.specs.Some.{someBelow, firstBelow};
 ghost use Rattle.directory.specs.Header as header;
 ghost use Rattle.directory.specs.Directory.{pspKind, cookieOf, entryPlace, checksumAt, mayStand, sameEntry, repeatsEarlier, entriesAt, directoryChecks, directoryAt, directoryByCookie, toldDirectory};
 ghost use Rattle.directory.specs.Repeat.{earlierOf, repeatIn, repeatedAt, toldRepeat};
 ghost use Rattle.directory.specs.Looks.{headAt, flagsUsed, clearBelow, faultyHead, faultyAt, badAt, endedAt};
+use reply::Fault;
+use reply::Met;
 use reply::Refusal;
 use window::Offset;
 
@@ -97,7 +99,7 @@ impl Directory {
 // What the checks of a directory answer.
 pub enum DirectoryAnswer {
     Given(Directory),
-    Refused(Refusal),
+    Refused(Fault),
 }
 
 // The cookie of a level.
@@ -256,9 +258,23 @@ fn ended_at(image: &[u8], kind: Kind, level: u32, at: Offset, n: u32, end: u32) 
 {
     if end < n {
         if reserved_zero(kind, head_at(image, kind, at, end)) {
-            return DirectoryAnswer::Refused(Refusal::MISPLACED);
+            return DirectoryAnswer::Refused(Fault {
+                number: Refusal::MISPLACED.number,
+                met: Met::Entry {
+                    level: level,
+                    index: end,
+                    directory: at.0,
+                },
+            });
         }
-        return DirectoryAnswer::Refused(Refusal::FIELD);
+        return DirectoryAnswer::Refused(Fault {
+            number: Refusal::FIELD.number,
+            met: Met::Entry {
+                level: level,
+                index: end,
+                directory: at.0,
+            },
+        });
     }
     DirectoryAnswer::Given(Directory {
         place: at,
@@ -279,7 +295,14 @@ fn entries_at(image: &[u8], kind: Kind, level: u32, at: Offset, n: u32) -> Direc
     if some_bad(image, kind, level, at, n) {
         let end = first_fault(image, kind, level, at, n);
         if some_bad(image, kind, level, at, end) {
-            return DirectoryAnswer::Refused(Refusal::REPEATED);
+            return DirectoryAnswer::Refused(Fault {
+                number: Refusal::REPEATED.number,
+                met: Met::Entry {
+                    level: level,
+                    index: first_repeat(image, kind, at, end),
+                    directory: at.0,
+                },
+            });
         }
         return ended_at(image, kind, level, at, n, end);
     }
@@ -289,16 +312,28 @@ fn entries_at(image: &[u8], kind: Kind, level: u32, at: Offset, n: u32) -> Direc
 // The checks of a directory whose n entries lie in the image: checksum, header reserved, entries.
 fn sealed(image: &[u8], kind: Kind, level: u32, at: Offset, n: u32) -> DirectoryAnswer
     requires { ⌜ at .0 + 16 + n * kind .entry ≤ length (now image) ⌝ }
-    ensures { λ r. ⌜ toldDirectory r ≡ guard (eqb (get header.checksum (now (image .entry)) (at .0)) (checksumAt kind (now (image .entry)) (at .0) n)) 4 (guard (eqb (get header.reserved (now (image .entry)) (at .0)) 0) 5 (entriesAt kind level (now (image .entry)) (at .0) n)) ⌝ }
+    ensures { λ r. ⌜ toldDirectory r ≡ check (eqb (get header.checksum (now (image .entry)) (at .0)) (checksumAt kind (now (image .entry)) (at .0) n)) 4 (inHeader level (at .0)) (check (eqb (get header.reserved (now (image .entry)) (at .0)) 0) 5 (inHeader level (at .0)) (entriesAt kind level (now (image .entry)) (at .0) n)) ⌝ }
 {
     let o = at.0 as usize;
     let size = (n as usize) * (kind.entry as usize);
     let sum = fletcher::fletcher(&image[o + Directory::TOTAL..o + Directory::HEADER + size]);
     if le::u32_at(image, o + Directory::CHECKSUM) != sum {
-        return DirectoryAnswer::Refused(Refusal::CHECKSUM);
+        return DirectoryAnswer::Refused(Fault {
+            number: Refusal::CHECKSUM.number,
+            met: Met::Header {
+                level: level,
+                directory: at.0,
+            },
+        });
     }
     if le::u32_at(image, o + Directory::RESERVED) != 0 {
-        return DirectoryAnswer::Refused(Refusal::FIELD);
+        return DirectoryAnswer::Refused(Fault {
+            number: Refusal::FIELD.number,
+            met: Met::Header {
+                level: level,
+                directory: at.0,
+            },
+        });
     }
     entries_at(image, kind, level, at, n)
 }
@@ -308,10 +343,10 @@ pub fn directory_at(image: &[u8], kind: Kind, limit: u32, level: u32, at: Offset
     ensures { λ r. ⌜ toldDirectory r ≡ directoryAt kind limit level (now (image .entry)) (at .0) ⌝ }
 {
     if level < 1 {
-        return DirectoryAnswer::Refused(Refusal::RANGE);
+        return DirectoryAnswer::Refused(Fault::RANGE);
     }
     if 2 < level {
-        return DirectoryAnswer::Refused(Refusal::RANGE);
+        return DirectoryAnswer::Refused(Fault::RANGE);
     }
     checked(image, kind, limit, level, at)
 }
@@ -322,18 +357,42 @@ fn checked(image: &[u8], kind: Kind, limit: u32, level: u32, at: Offset) -> Dire
 {
     let o = at.0 as usize;
     if image.len() < o + Directory::HEADER {
-        return DirectoryAnswer::Refused(Refusal::SHORT);
+        return DirectoryAnswer::Refused(Fault {
+            number: Refusal::SHORT.number,
+            met: Met::Header {
+                level: level,
+                directory: at.0,
+            },
+        });
     }
     if le::u32_at(image, o + Directory::COOKIE) != cookie_of(kind, level) {
-        return DirectoryAnswer::Refused(Refusal::SIGNATURE);
+        return DirectoryAnswer::Refused(Fault {
+            number: Refusal::SIGNATURE.number,
+            met: Met::Header {
+                level: level,
+                directory: at.0,
+            },
+        });
     }
     let n = le::u32_at(image, o + Directory::TOTAL);
     if limit < n {
-        return DirectoryAnswer::Refused(Refusal::LIMITS);
+        return DirectoryAnswer::Refused(Fault {
+            number: Refusal::LIMITS.number,
+            met: Met::Header {
+                level: level,
+                directory: at.0,
+            },
+        });
     }
     let size = (n as usize) * (kind.entry as usize);
     if image.len() < o + Directory::HEADER + size {
-        return DirectoryAnswer::Refused(Refusal::SHORT);
+        return DirectoryAnswer::Refused(Fault {
+            number: Refusal::SHORT.number,
+            met: Met::Header {
+                level: level,
+                directory: at.0,
+            },
+        });
     }
     sealed(image, kind, level, at, n)
 }
@@ -344,7 +403,13 @@ pub fn directory_by_cookie(image: &[u8], kind: Kind, limit: u32, at: Offset) -> 
 {
     let o = at.0 as usize;
     if image.len() < o + Directory::HEADER {
-        return DirectoryAnswer::Refused(Refusal::SHORT);
+        return DirectoryAnswer::Refused(Fault {
+            number: Refusal::SHORT.number,
+            met: Met::Header {
+                level: 0,
+                directory: at.0,
+            },
+        });
     }
     let found = le::u32_at(image, o + Directory::COOKIE);
     if found == kind.one {
@@ -353,7 +418,13 @@ pub fn directory_by_cookie(image: &[u8], kind: Kind, limit: u32, at: Offset) -> 
     if found == kind.two {
         return checked(image, kind, limit, 2, at);
     }
-    DirectoryAnswer::Refused(Refusal::SIGNATURE)
+    DirectoryAnswer::Refused(Fault {
+        number: Refusal::SIGNATURE.number,
+        met: Met::Header {
+            level: 0,
+            directory: at.0,
+        },
+    })
 }
 
 // Two entries of one type and subprogram: the one that repeats, the earlier one, and what both have.
@@ -367,7 +438,7 @@ pub struct Repeat {
 // Which entries repeat: the first such two, or why there are none.
 pub enum RepeatAnswer {
     Given(Repeat),
-    Refused(Refusal),
+    Refused(Fault),
 }
 
 // Have entries i and j the same type and subprogram?
@@ -384,7 +455,7 @@ fn same_entry(image: &[u8], kind: Kind, at: Offset, i: u32, j: u32) -> bool
 }
 
 // The first entry before i that has its type and subprogram, or i.
-fn earlier_of(image: &[u8], kind: Kind, at: Offset, i: u32) -> u32
+pub fn earlier_of(image: &[u8], kind: Kind, at: Offset, i: u32) -> u32
     ensures { λ r. ⌜ r ≡ earlierOf kind (now (image .entry)) (at .0) i ⌝ }
 {
     let mut j: u32 = 0;
@@ -397,22 +468,29 @@ fn earlier_of(image: &[u8], kind: Kind, at: Offset, i: u32) -> u32
     i
 }
 
-// The first of the n entries that repeats an earlier one, or n.
+// The first of the n entries, which lie in the image, that repeats an earlier one, or n. Each type and subprogram that was seen has a mark.
 fn first_repeat(image: &[u8], kind: Kind, at: Offset, n: u32) -> u32
+    requires { ⌜ at .0 + 16 + n * kind .entry ≤ length (now image) ⌝ }
     ensures { λ r. ⌜ r ≡ firstBelow (repeatsEarlier kind (now (image .entry)) (at .0)) n ⌝ }
 {
+    let mut seen = [1u64; 1024];
     let mut i: u32 = 0;
     while i < n {
-        if earlier_of(image, kind, at, i) < i {
+        let pair = (head_at(image, kind, at, i) % 65536) as u16;
+        let w = marks::cell(pair);
+        let word = seen[w];
+        if marks::marked(word, pair) {
             return i;
         }
+        seen[w] = marks::with_mark(word, pair);
         i += 1;
     }
     n
 }
 
-// The first of the n entries that repeats an earlier one, and that one.
+// The first of the n entries, which lie in the image, that repeats an earlier one, and that one.
 fn repeat_in(image: &[u8], kind: Kind, at: Offset, n: u32) -> Repeat
+    requires { ⌜ at .0 + 16 + n * kind .entry ≤ length (now image) ⌝ }
     ensures { λ r. ⌜ r ≡ repeatIn kind (now (image .entry)) (at .0) n ⌝ }
 {
     let i = first_repeat(image, kind, at, n);
@@ -430,7 +508,7 @@ pub fn repeated_at(image: &[u8], kind: Kind, limit: u32, level: u32, at: Offset)
     ensures { λ r. ⌜ toldRepeat r ≡ repeatedAt kind limit level (now (image .entry)) (at .0) ⌝ }
 {
     match directory_at(image, kind, limit, level, at) {
-        DirectoryAnswer::Given(_) => RepeatAnswer::Refused(Refusal::ABSENT),
+        DirectoryAnswer::Given(_) => RepeatAnswer::Refused(Fault::ABSENT),
         DirectoryAnswer::Refused(why) => {
             if why.number == 18 {
                 return RepeatAnswer::Given(repeat_in(

@@ -12,7 +12,7 @@ use mathlib.Core.Bool.{Bool, not, cond, _&&_, _||_}
 use Rattle.le.specs.Le.{leAt}
 use Rattle.le.proofs.Laws.{le-same}
 use Rattle.le.proofs.Part.{part-same}
-use Rattle.reply.specs.Reply.{Reply, given, refused, alone, check, then}
+use Rattle.reply.specs.Reply.{Reply, given, refused, alone, inEntry, check, then, met}
 use Rattle.reply.proofs.ReplyLaws.{check-same, then-same}
 use Rattle.reply.proofs.ScanLaws.{scan-same}
 use Rattle.directory.specs.Directory.{totalAt, entryPlace, sameEntry, mayRepeat, entryStep, directoryOf, entriesAt, directoryAt, directoryByCookie}
@@ -54,15 +54,19 @@ module _ (kind : Kind) (s t : List ℕ) (d : Directory) (wide : 16 ≤ kind .ent
   entry-same i = check-same (ltb i (d .total)) _ _ _ _ (λ b. ap given (entry-of-same i (ltb-true _ _ b)))
 
   pub lead-same : leadIn kind s d ≡ leadIn kind t d
-  lead-same = scan-same (leadStep kind s d) (leadStep kind t d) (λ _. refused 8 alone) (d .total) 0 (λ j a b rest. ap (λ (e : Entry). cond (eqb (e .class) (kind .lead)) (given e) rest) (entry-of-same j (omega arith)))
+  lead-same = scan-same (leadStep kind s d) (leadStep kind t d) (λ _. refused 8 alone) (d .total) 0 (λ j a b rest. ap (λ (e : Entry). cond (eqb (e .class) (kind .lead)) (given (record { index = j; entry = e })) rest) (entry-of-same j (omega arith)))
 
   pub lookup-same : (class sub : ℕ) → findIn kind s d class sub ≡ findIn kind t d class sub
   lookup-same class sub = scan-same (findStep kind s d class sub) (findStep kind t d class sub) nowhere (d .total) 0 (λ j a b rest. ap (λ (e : Entry). cond (matches e class sub) (foundAt j) rest) (entry-of-same j (omega arith)))
 
   pub part-in-same : (window i : ℕ) → partIn kind window s d i ≡ partIn kind window t d i
   part-in-same window i =
-      then-same (entryIn kind s d i) (partOf kind window s (d .place .0)) (partOf kind window t (d .place .0)) (λ e q. part-of-same kind window s t (agree .long) (d .place .0) e)
-      ∙ ap (λ (r : Reply Entry). then r (partOf kind window t (d .place .0))) (entry-same i)
+      then-same (entryIn kind s d i) (here s) (here t) (λ e q. ap (met (inEntry (d .level) i (d .place .0))) (part-of-same kind window s t (agree .long) (d .place .0) e))
+      ∙ ap (λ (r : Reply Entry). then r (here t)) (entry-same i)
+    where
+      -- the step after the entry, in either image
+      here : List ℕ → Entry → Reply Part
+      here s e = met (inEntry (d .level) i (d .place .0)) (partOf kind window s (d .place .0) e)
 
 pub entries-independence : EntriesIndependence
 entries-independence kind s t d wide agree = record {

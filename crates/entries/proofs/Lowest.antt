@@ -11,11 +11,12 @@ use Rattle.reply.specs.Scan.{Lowest, None}
 use Rattle.reply.proofs.ReplyLaws.{clash}
 use Rattle.reply.proofs.SomeLaws.{some-true, some-false}
 use Rattle.reply.proofs.Lowest.{Searched, lowest, none, Decided, lowest-found, none-found, searched}
-use Rattle.entries.specs.Entry.{entryOf, leadIn, matches, holdsIn, findIn, foundAt, nowhere}
+use Rattle.entries.specs.Entry.{entryOf, leadOf, leadIn, matches, holdsIn, findIn, foundAt, nowhere}
 use Rattle.entries.specs.Good.{Leads, Matches, LowestLead, LowestMatch}
 use Rattle.directory.specs.declared.Kind.{Kind}
 use Rattle.directory.specs.declared.Directory.{Directory}
 use Rattle.entries.specs.declared.Entry.{Entry}
+use Rattle.entries.specs.declared.Lead.{Lead}
 use Rattle.entries.specs.declared.Match.{Match}
 
 -- the test of a match, as a fact and back
@@ -36,20 +37,24 @@ match-test kind s d type sub = record {
 }
 
 module _ (kind : Kind) (s : List ℕ) (d : Directory) where
-  lead-searched : Searched (Leads kind s d) (λ i. given (entryOf kind s d i)) (λ _. refused 8 alone) (d .total) (leadIn kind s d)
-  lead-searched = searched (Leads kind s d) (leads-test kind s d) (λ i. given (entryOf kind s d i)) (λ _. refused 8 alone) (d .total)
+  lead-searched : Searched (Leads kind s d) (λ i. given (leadOf kind s d i)) (λ _. refused 8 alone) (d .total) (leadIn kind s d)
+  lead-searched = searched (Leads kind s d) (leads-test kind s d) (λ i. given (leadOf kind s d i)) (λ _. refused 8 alone) (d .total)
 
-  lead-only : (e : Entry) → leadIn kind s d ≡ given e → (i : ℕ) × Lowest (Leads kind s d) (d .total) i × (entryOf kind s d i ≡ e)
-  lead-only e q = by lead-searched
+  lead-only : (l : Lead) → leadIn kind s d ≡ given l → Lowest (Leads kind s d) (d .total) (l .index) × (entryOf kind s d (l .index) ≡ l .entry)
+  lead-only l q = by lead-searched
     where
-      by : Searched (Leads kind s d) (λ i. given (entryOf kind s d i)) (λ _. refused 8 alone) (d .total) (leadIn kind s d) → (i : ℕ) × Lowest (Leads kind s d) (d .total) i × (entryOf kind s d i ≡ e)
-      by (lowest i l h) = let g : given (entryOf kind s d i) ≡ given e = sym h ∙ q in (i, l, cc)
+      by : Searched (Leads kind s d) (λ i. given (leadOf kind s d i)) (λ _. refused 8 alone) (d .total) (leadIn kind s d) → Lowest (Leads kind s d) (d .total) (l .index) × (entryOf kind s d (l .index) ≡ l .entry)
+      by (lowest i f h) =
+          let g : given (leadOf kind s d i) ≡ given l = sym h ∙ q in
+          let x : i ≡ l .index = cc in
+          let y : entryOf kind s d i ≡ l .entry = cc in
+          (rw (← x) f, rw (← x) y)
       by (none f h) = clash (sym h ∙ q)
 
   lead-none : (number : ℕ) (carried : Carried) → leadIn kind s d ≡ refused number carried → None (Leads kind s d) (d .total)
   lead-none number carried q = by lead-searched
     where
-      by : Searched (Leads kind s d) (λ i. given (entryOf kind s d i)) (λ _. refused 8 alone) (d .total) (leadIn kind s d) → None (Leads kind s d) (d .total)
+      by : Searched (Leads kind s d) (λ i. given (leadOf kind s d i)) (λ _. refused 8 alone) (d .total) (leadIn kind s d) → None (Leads kind s d) (d .total)
       by (lowest i l h) = clash (sym q ∙ h)
       by (none f h) = f
 
@@ -90,8 +95,8 @@ module _ (kind : Kind) (s : List ℕ) (d : Directory) where
 
 pub lowest-lead : LowestLead
 lowest-lead = record {
-  found = λ kind s d. lowest-found (Leads kind s d) (leads-test kind s d) (λ i. given (entryOf kind s d i)) (λ _. refused 8 alone) (d .total);
-  absent = λ kind s d. none-found (Leads kind s d) (leads-test kind s d) (λ i. given (entryOf kind s d i)) (λ _. refused 8 alone) (d .total);
+  found = λ kind s d. lowest-found (Leads kind s d) (leads-test kind s d) (λ i. given (leadOf kind s d i)) (λ _. refused 8 alone) (d .total);
+  absent = λ kind s d. none-found (Leads kind s d) (leads-test kind s d) (λ i. given (leadOf kind s d i)) (λ _. refused 8 alone) (d .total);
   found-only = lead-only;
   absent-only = lead-none;
 }

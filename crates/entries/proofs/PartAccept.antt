@@ -8,8 +8,8 @@ use native.Mathlib.Omega.{arith}
 use borrow.Author.Tests.{leb-true, eqb-true, eqb-false, not-true, le-leb, eq-eqb, ne-eqb}
 use lib.ListN.{length, getD}
 use lib.Dec.{leb, eqb}
-use Rattle.reply.specs.Reply.{Reply, given, then}
-use Rattle.reply.proofs.ReplyLaws.{past, passed, then-given, either}
+use Rattle.reply.specs.Reply.{Reply, given, inEntry, then, met}
+use Rattle.reply.proofs.ReplyLaws.{past, passed, then-given, either, met-given}
 use Rattle.window.specs.Window.{fourGiB, offsetIn}
 use Rattle.window.proofs.Inside.{offset-shown, shown-offset}
 use Rattle.window.specs.declared.Offset.{Offset}
@@ -81,12 +81,14 @@ module _ (kind : Kind) (window : ℕ) (fits : window ≤ fourGiB) (s : List ℕ)
 
   only-part : (d : Directory) (i : ℕ) (p : Part) → partIn kind window s d i ≡ given p → (i < d .total) × GoodPart kind window s (d .place .0) (entryOf kind s d i) p
   only-part d i p h =
-      let t = then-given (entryIn kind s d i) (partOf kind window s (d .place .0)) h in
+      let t = then-given (entryIn kind s d i) _ h in
       let g = only-entry kind s d i (t .0) (t .1) in
-      (g .0, part-fact (d .place .0) (entryOf kind s d i) p (two-bits s (entryPlace kind (d .place .0) i)) (ap (partOf kind window s (d .place .0)) (g .1) ∙ t .2))
+      (g .0, part-fact (d .place .0) (entryOf kind s d i) p (two-bits s (entryPlace kind (d .place .0) i)) (ap (partOf kind window s (d .place .0)) (g .1) ∙ met-given _ (partOf kind window s (d .place .0) (t .0)) (t .2)))
 
   all-part : (d : Directory) (i : ℕ) (p : Part) → i < d .total → GoodPart kind window s (d .place .0) (entryOf kind s d i) p → partIn kind window s d i ≡ given p
-  all-part d i p h g = ap (λ (r : Reply Entry). then r (partOf kind window s (d .place .0))) (all-entry kind s d i h) ∙ part-given (d .place .0) (entryOf kind s d i) p g
+  all-part d i p h g =
+      ap (λ (r : Reply Entry). then r (λ e. met (inEntry (d .level) i (d .place .0)) (partOf kind window s (d .place .0) e))) (all-entry kind s d i h)
+      ∙ ap (met (inEntry (d .level) i (d .place .0))) (part-given (d .place .0) (entryOf kind s d i) p g)
 
 pub parts-accepted : PartsAccepted
 parts-accepted kind window s d i p fits = record { only = only-part kind window fits s d i p; all = all-part kind window fits s d i p }

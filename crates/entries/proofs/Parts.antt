@@ -8,7 +8,7 @@ use borrow.Author.Tests.{leb-true, eq-eqb, ne-eqb}
 use lib.ListN.{length}
 use lib.Dec.{leb, eqb}
 use Rattle.reply.specs.Reply.{Reply, given, refused, alone, then}
-use Rattle.reply.proofs.ReplyLaws.{past, then-given, then-told}
+use Rattle.reply.proofs.ReplyLaws.{past, then-given, then-told, met-given}
 use Rattle.window.specs.Window.{offsetIn, toldOffset}
 use Rattle.window.specs.declared.Offset.{Offset}
 use Rattle.window.specs.declared.OffsetAnswer.{OffsetAnswer}
@@ -56,9 +56,9 @@ within-fact s x p e =
 pub part-inside : (kind : Kind) (window : ℕ) (s : List ℕ) (d : Directory) (i : ℕ) (p : Part) → partIn kind window s d i ≡ given p → p .place .0 + p .length ≤ length s
 unfolding partOf partWithin
 part-inside kind window s d i p e =
-    let t = then-given (entryIn kind s d i) (partOf kind window s (d .place .0)) e in
+    let t = then-given (entryIn kind s d i) _ e in
     let f = t .0 in
-    let g = past (not (eqb (f .class) (kind .value))) _ _ _ (t .2) in
+    let g = past (not (eqb (f .class) (kind .value))) _ _ _ (met-given _ (partOf kind window s (d .place .0) f) (t .2)) in
     let u = then-given (leadsTo window s (d .place .0) f) (partWithin s (f .size)) (g .1) in
     let h = past (leb (u .0 .0 + f .size) (length s)) _ _ _ (u .2) in
     let b : u .0 .0 + f .size ≤ length s = leb-true _ _ (h .0) in

@@ -5,7 +5,7 @@ use mathlib.Core.Bool.{Bool, _&&_, cond}
 use lib.Dec.{ltb, eqb}
 use Rattle.le.specs.Le.{bitsFrom, bitsBelow}
 use Rattle.le.specs.Field.{get}
-use Rattle.reply.specs.Reply.{Reply, given, refused, alone, tested, guard}
+use Rattle.reply.specs.Reply.{Reply, given, refused, alone, tested, carriedOf, guard}
 use Rattle.reply.specs.Scan.{scan}
 use Rattle.reply.specs.Some.{someBelow}
 use Rattle.directory.specs.Entry as entry
@@ -15,6 +15,9 @@ use Rattle.directory.specs.declared.Directory.{Directory}
 use Rattle.entries.specs.declared.Entry.{Entry}
 use Rattle.entries.specs.declared.EntryAnswer.{EntryAnswer}
 use Rattle.entries.specs.declared.EntryAnswer.the-variants as entryAnswer
+use Rattle.entries.specs.declared.Lead.{Lead}
+use Rattle.entries.specs.declared.LeadAnswer.{LeadAnswer}
+use Rattle.entries.specs.declared.LeadAnswer.the-variants as leadAnswer
 use Rattle.entries.specs.declared.Match.{Match}
 use Rattle.entries.specs.declared.MatchAnswer.{MatchAnswer}
 use Rattle.entries.specs.declared.MatchAnswer.the-variants as matchAnswer
@@ -37,12 +40,16 @@ entryOf kind image d i = fieldsAt image (entryPlace kind (d .place .0) i)
 abbrev pub entryIn : Kind → (image : List ℕ) → Directory → (i : ℕ) → Reply Entry
 entryIn kind image d i = guard (ltb i (d .total)) 8 (given (entryOf kind image d i))
 
--- entry i, if it leads to level two, or what the entries behind it answer
-abbrev pub leadStep : Kind → (image : List ℕ) → Directory → (i : ℕ) → (rest : Reply Entry) → Reply Entry
-leadStep kind image d i rest = cond (eqb (entryOf kind image d i .class) (kind .lead)) (given (entryOf kind image d i)) rest
+-- entry i as a lead
+abbrev pub leadOf : Kind → (image : List ℕ) → Directory → (i : ℕ) → Lead
+leadOf kind image d i = record { index = i; entry = entryOf kind image d i }
 
--- the lowest entry that leads to level two; none: 8
-abbrev pub leadIn : Kind → (image : List ℕ) → Directory → Reply Entry
+-- entry i, if it leads to level two, or what the entries behind it answer
+abbrev pub leadStep : Kind → (image : List ℕ) → Directory → (i : ℕ) → (rest : Reply Lead) → Reply Lead
+leadStep kind image d i rest = cond (eqb (entryOf kind image d i .class) (kind .lead)) (given (leadOf kind image d i)) rest
+
+-- the lowest entry that leads to level two, with its index; none: 8
+abbrev pub leadIn : Kind → (image : List ℕ) → Directory → Reply Lead
 leadIn kind image d = scan (leadStep kind image d) (λ _. refused 8 alone) (d .total) 0
 
 -- an entry has this type and subprogram
@@ -72,9 +79,13 @@ findIn kind image d class sub = scan (findStep kind image d class sub) nowhere (
 -- what the answers tell
 abbrev pub toldEntry : EntryAnswer → Reply Entry
 toldEntry (entryAnswer.Given e) = given e
-toldEntry (entryAnswer.Refused why) = refused (why .number) alone
+toldEntry (entryAnswer.Refused why) = refused (why .number) (carriedOf (why .met))
+
+abbrev pub toldLead : LeadAnswer → Reply Lead
+toldLead (leadAnswer.Given l) = given l
+toldLead (leadAnswer.Refused why) = refused (why .number) (carriedOf (why .met))
 
 abbrev pub toldMatch : MatchAnswer → Reply Match
 toldMatch (matchAnswer.Given m) = given m
 toldMatch (matchAnswer.Absent n) = refused 8 (tested n)
-toldMatch (matchAnswer.Refused why) = refused (why .number) alone
+toldMatch (matchAnswer.Refused why) = refused (why .number) (carriedOf (why .met))

@@ -9,17 +9,19 @@ use Rattle.reply.specs.Scan.{Lowest, None}
 use Rattle.window.specs.Window.{fourGiB}
 use Rattle.window.specs.Inside.{Shown}
 use Rattle.directory.specs.Directory.{directoryAt}
-use Rattle.entries.specs.Entry.{entryOf, entryIn, leadIn, findIn, toldEntry, toldMatch}
+use Rattle.entries.specs.Entry.{entryOf, entryIn, leadOf, leadIn, findIn, toldEntry, toldLead, toldMatch}
 use Rattle.entries.specs.Part.{partOf, partIn, toldPart}
 use Rattle.directory.specs.declared.Kind.{Kind}
 use Rattle.directory.specs.declared.Directory.{Directory}
 use Rattle.entries.specs.declared.Entry.{Entry}
+use Rattle.entries.specs.declared.Lead.{Lead}
 use Rattle.entries.specs.declared.Match.{Match}
 use Rattle.entries.specs.declared.Part.{Part}
 
 -- no two answers of a call tell the same
 pub record ToldApart : Type 0 where
   pub entry : OneToOne toldEntry
+  pub lead : OneToOne toldLead
   pub lookup : OneToOne toldMatch
   pub part : OneToOne toldPart
 
@@ -39,10 +41,10 @@ Matches kind image d class sub i = (entryOf kind image d i .class ≡ class) × 
 
 -- the lead is the lowest entry that leads, or 8, and never otherwise
 pub record LowestLead : Type 0 where
-  pub found : (kind : Kind) (image : List ℕ) (d : Directory) (i : ℕ) → Lowest (Leads kind image d) (d .total) i → leadIn kind image d ≡ given (entryOf kind image d i)
+  pub found : (kind : Kind) (image : List ℕ) (d : Directory) (i : ℕ) → Lowest (Leads kind image d) (d .total) i → leadIn kind image d ≡ given (leadOf kind image d i)
   pub absent : (kind : Kind) (image : List ℕ) (d : Directory) → None (Leads kind image d) (d .total) → leadIn kind image d ≡ refused 8 alone
-  pub found-only : (kind : Kind) (image : List ℕ) (d : Directory) (e : Entry) → leadIn kind image d ≡ given e →
-      (i : ℕ) × Lowest (Leads kind image d) (d .total) i × (entryOf kind image d i ≡ e)
+  pub found-only : (kind : Kind) (image : List ℕ) (d : Directory) (l : Lead) → leadIn kind image d ≡ given l →
+      Lowest (Leads kind image d) (d .total) (l .index) × (entryOf kind image d (l .index) ≡ l .entry)
   pub absent-only : (kind : Kind) (image : List ℕ) (d : Directory) (number : ℕ) (carried : Carried) → leadIn kind image d ≡ refused number carried → None (Leads kind image d) (d .total)
 
 -- the lookup gives the lowest match with its count, index + 1, or 8 with the total, and never otherwise

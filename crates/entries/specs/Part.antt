@@ -4,7 +4,7 @@ use mathlib.Core.List.{List, []}
 use mathlib.Core.Bool.{not, cond}
 use lib.ListN.{take, drop}
 use lib.Dec.{eqb}
-use Rattle.reply.specs.Reply.{Reply, given, refused, alone, guard, then}
+use Rattle.reply.specs.Reply.{Reply, given, refused, inEntry, carriedOf, guard, then, met}
 use Rattle.window.specs.Window.{offsetIn, within}
 use Rattle.window.specs.declared.Offset.{Offset}
 use Rattle.entries.specs.Entry.{entryIn}
@@ -37,9 +37,9 @@ partOf kind window image o e =
     guard (not (eqb (e .class) (kind .value))) 17  -- type 0x0B is a value (17)
     (then (leadsTo window image o e) (partWithin image (e .size)))  -- its place (16, 7), its part (7)
 
--- where the bytes of entry i of a directory lie
+-- where the bytes of entry i of a directory lie; what is wrong in the entry carries it
 abbrev pub partIn : Kind → (window : ℕ) → (image : List ℕ) → Directory → (i : ℕ) → Reply Part
-partIn kind window image d i = then (entryIn kind image d i) (partOf kind window image (d .place .0))
+partIn kind window image d i = then (entryIn kind image d i) (λ e. met (inEntry (d .level) i (d .place .0)) (partOf kind window image (d .place .0) e))
 
 -- the bytes of a part; none where it is refused
 abbrev pub bytesOf : (image : List ℕ) → Reply Part → List ℕ
@@ -54,4 +54,4 @@ beginOf begin (refused number carried) = begin
 -- what the answer tells
 abbrev pub toldPart : PartAnswer → Reply Part
 toldPart (partAnswer.Given p) = given p
-toldPart (partAnswer.Refused why) = refused (why .number) alone
+toldPart (partAnswer.Refused why) = refused (why .number) (carriedOf (why .met))

@@ -2,13 +2,16 @@
 ghost use mathlib.Core.Path.{_≡_};
 ghost use Prim.Native.Nat.{_+_, _≤_};
 ghost use lib.ListN.{length};
+ghost use Rattle.reply.specs.Reply.{inEntry, met};
 ghost use Rattle.window.specs.Window.{toldOffset};
 ghost use Rattle.window.specs.Length.{longest, sized};
 ghost use Rattle.directory.specs.Directory.{entryPlace, classAt};
-ghost use Rattle.entries.specs.Entry.{fieldsAt, entryIn, toldEntry, leadIn, matches, holdsIn, findIn, toldMatch};
+ghost use Rattle.entries.specs.Entry.{fieldsAt, entryIn, toldEntry, leadIn, toldLead, matches, holdsIn, findIn, toldMatch};
 ghost use Rattle.entries.specs.Part.{placeIn, leadsTo, partWithin, partOf, partIn, toldPart, bytesOf, beginOf};
 use directory::Directory;
 use directory::Kind;
+use reply::Fault;
+use reply::Met;
 use reply::Refusal;
 use window::Offset;
 use window::OffsetAnswer;
@@ -26,7 +29,7 @@ pub struct Entry {
 // What reading an entry answers.
 pub enum EntryAnswer {
     Given(Entry),
-    Refused(Refusal),
+    Refused(Fault),
 }
 
 // The fields of entry i, as the bytes there tell them.
@@ -66,7 +69,7 @@ pub fn entry_in(image: &[u8], kind: Kind, d: Directory, i: usize) -> EntryAnswer
     if i < (d.total() as usize) {
         EntryAnswer::Given(fields_at(image, kind, d.place(), i as u32))
     } else {
-        EntryAnswer::Refused(Refusal::ABSENT)
+        EntryAnswer::Refused(Fault::ABSENT)
     }
 }
 
@@ -77,20 +80,35 @@ pub fn class_at(image: &[u8], kind: Kind, at: Offset, i: u32) -> u8
     le::u8_at(image, directory::entry_place(kind, at, i) + Kind::CLASS)
 }
 
+// An entry that leads to level two, and its index.
+pub struct Lead {
+    pub index: u32,
+    pub entry: Entry,
+}
+
+// What the search for one answers.
+pub enum LeadAnswer {
+    Given(Lead),
+    Refused(Fault),
+}
+
 // The lowest entry of a directory that leads to level two.
-pub fn lead_in(image: &[u8], kind: Kind, d: Directory) -> EntryAnswer
-    ensures { λ r. ⌜ toldEntry r ≡ leadIn kind (now (image .entry)) d ⌝ }
+pub fn lead_in(image: &[u8], kind: Kind, d: Directory) -> LeadAnswer
+    ensures { λ r. ⌜ toldLead r ≡ leadIn kind (now (image .entry)) d ⌝ }
 {
     let n = d.total();
     let at = d.place();
     let mut i: u32 = 0;
     while i < n {
         if class_at(image, kind, at, i) == kind.lead {
-            return EntryAnswer::Given(fields_at(image, kind, at, i));
+            return LeadAnswer::Given(Lead {
+                index: i,
+                entry: fields_at(image, kind, at, i),
+            });
         }
         i += 1;
     }
-    EntryAnswer::Refused(Refusal::ABSENT)
+    LeadAnswer::Refused(Fault::ABSENT)
 }
 
 // A lookup's match: its index, and the number of entries tested.
@@ -103,7 +121,7 @@ pub struct Match {
 pub enum MatchAnswer {
     Given(Match),
     Absent(u32),
-    Refused(Refusal),
+    Refused(Fault),
 }
 
 // Does an entry have this type and subprogram?
@@ -215,7 +233,7 @@ pub struct Part {
 // What the place of an entry's bytes answers.
 pub enum PartAnswer {
     Given(Part),
-    Refused(Refusal),
+    Refused(Fault),
 }
 
 // The part of so many bytes at a place, where it ends within the image.
@@ -224,7 +242,7 @@ fn part_within(image: &[u8], place: Offset, size: u32) -> PartAnswer
 {
     let length = size as usize;
     if image.len() < (place.0 as usize) + length {
-        return PartAnswer::Refused(Refusal::OUTSIDE);
+        return PartAnswer::Refused(Fault::OUTSIDE);
     }
     PartAnswer::Given(Part {
         place: place,
@@ -238,11 +256,14 @@ fn part_of(image: &[u8], kind: Kind, window: usize, at: Offset, e: Entry) -> Par
     ensures { λ r. ⌜ toldPart r ≡ partOf kind window (now (image .entry)) (at .0) e ⌝ }
 {
     if (e.class as u16) == kind.value {
-        return PartAnswer::Refused(Refusal::VALUE);
+        return PartAnswer::Refused(Fault::VALUE);
     }
     match place_of(image, window, at, e) {
         OffsetAnswer::Given(place) => part_within(image, place, e.size),
-        OffsetAnswer::Refused(why) => PartAnswer::Refused(why),
+        OffsetAnswer::Refused(why) => PartAnswer::Refused(Fault {
+            number: why.number,
+            met: Met::Alone,
+        }),
     }
 }
 
@@ -253,7 +274,25 @@ pub fn entry_part(image: &[u8], kind: Kind, window: usize, at: Offset, e: Entry)
     if window::length_allowed(image) {
         part_of(image, kind, window, at, e)
     } else {
-        PartAnswer::Refused(Refusal::IMAGE)
+        PartAnswer::Refused(Fault::IMAGE)
+    }
+}
+
+// The same of entry i of a directory: a refusal was met in that entry.
+fn part_met(image: &[u8], kind: Kind, window: usize, d: Directory, i: u32, e: Entry) -> PartAnswer
+    requires { ⌜ length (now image) ≤ longest ⌝ }
+    ensures { λ r. ⌜ toldPart r ≡ met (inEntry (d .level) i (d .place .0)) (partOf kind window (now (image .entry)) (d .place .0) e) ⌝ }
+{
+    match part_of(image, kind, window, d.place(), e) {
+        PartAnswer::Given(p) => PartAnswer::Given(p),
+        PartAnswer::Refused(why) => PartAnswer::Refused(Fault {
+            number: why.number,
+            met: Met::Entry {
+                level: d.level(),
+                index: i,
+                directory: d.place().0,
+            },
+        }),
     }
 }
 
@@ -263,7 +302,7 @@ fn part_sized(image: &[u8], kind: Kind, window: usize, d: Directory, i: usize) -
     ensures { λ r. ⌜ toldPart r ≡ partIn kind window (now (image .entry)) d i ⌝ }
 {
     match entry_in(image, kind, d, i) {
-        EntryAnswer::Given(e) => part_of(image, kind, window, d.place(), e),
+        EntryAnswer::Given(e) => part_met(image, kind, window, d, i as u32, e),
         EntryAnswer::Refused(why) => PartAnswer::Refused(why),
     }
 }
@@ -275,7 +314,7 @@ pub fn part_in(image: &[u8], kind: Kind, window: usize, d: Directory, i: usize) 
     if window::length_allowed(image) {
         part_sized(image, kind, window, d, i)
     } else {
-        PartAnswer::Refused(Refusal::IMAGE)
+        PartAnswer::Refused(Fault::IMAGE)
     }
 }
 

@@ -4,20 +4,41 @@ use build::TotalAnswer;
 use directory::Directory;
 use directory::DirectoryAnswer;
 use entries::EntryAnswer;
-use reply::Refusal;
+use reply::Fault;
+use reply::Met;
 use window::Offset;
 
-fn show_refusal(why: Refusal) {
-    io::write_all(1, b"refused ");
-    io::print_decimal(1, why.number as u64);
+fn show_decimal(name: &[u8], number: u64) {
+    io::write_all(1, name);
+    io::print_decimal(1, number);
+}
+
+// A refusal, and where it was met: the level of a header, or the level and index of an entry.
+fn show_refusal(why: Fault) {
+    show_decimal(b"refused ", why.number as u64);
+    let place = why.met;
+    match place {
+        Met::Alone => {}
+        Met::Header {
+            level,
+            directory: _,
+        } => show_decimal(b" level=", level as u64),
+        Met::Entry {
+            level,
+            index,
+            directory: _,
+        } => {
+            show_decimal(b" level=", level as u64);
+            show_decimal(b" index=", index as u64);
+        }
+    }
     io::write_all(1, b"\n");
 }
 
 fn show_total(answer: TotalAnswer) {
     match answer {
         TotalAnswer::Given(total) => {
-            io::write_all(1, b"ok total=");
-            io::print_decimal(1, total as u64);
+            show_decimal(b"ok total=", total as u64);
             io::write_all(1, b"\n");
         }
         TotalAnswer::Refused(why) => show_refusal(why),
@@ -49,10 +70,8 @@ fn show_entry(buf: &[u8], d: Directory, i: usize) {
 fn show_directory(buf: &[u8]) {
     match directory::directory_by_cookie(buf, directory::psp_kind(), 512, Offset(0)) {
         DirectoryAnswer::Given(d) => {
-            io::write_all(1, b"ok level=");
-            io::print_decimal(1, d.level() as u64);
-            io::write_all(1, b" total=");
-            io::print_decimal(1, d.total() as u64);
+            show_decimal(b"ok level=", d.level() as u64);
+            show_decimal(b" total=", d.total() as u64);
             show_number(b" checksum", le::u32_at(buf, 4) as u64);
             show_number(b" behind", le::u64_at(buf, 64));
             io::write_all(1, b"\n");

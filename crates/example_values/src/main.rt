@@ -8,6 +8,8 @@ use entries::PartAnswer;
 use firmware::Firmware;
 use guids::Guid;
 use libc::STDOUT_FILENO;
+use reply::Fault;
+use reply::Met;
 use reply::Refusal;
 use window::Offset;
 
@@ -15,15 +17,40 @@ fn show(text: &[u8]) {
     io::write_all(STDOUT_FILENO, text);
 }
 
+fn show_decimal(name: &[u8], number: u64) {
+    show(name);
+    io::print_decimal(STDOUT_FILENO, number);
+}
+
 fn show_refusal(why: Refusal) {
-    show(b"refused ");
-    io::print_decimal(STDOUT_FILENO, why.number as u64);
+    show_decimal(b"refused ", why.number as u64);
+    show(b"\n");
+}
+
+// A refusal of a directory, and where it was met: the level of a header, or the level and index of an entry.
+fn show_fault(why: Fault) {
+    show_decimal(b"refused ", why.number as u64);
+    let place = why.met;
+    match place {
+        Met::Alone => {}
+        Met::Header {
+            level,
+            directory: _,
+        } => show_decimal(b" level=", level as u64),
+        Met::Entry {
+            level,
+            index,
+            directory: _,
+        } => {
+            show_decimal(b" level=", level as u64);
+            show_decimal(b" index=", index as u64);
+        }
+    }
     show(b"\n");
 }
 
 fn show_total(total: u32) {
-    show(b"ok total=");
-    io::print_decimal(STDOUT_FILENO, total as u64);
+    show_decimal(b"ok total=", total as u64);
     show(b"\n");
 }
 
@@ -37,10 +64,8 @@ fn show_guid_total(answer: guids::LengthAnswer) {
 fn show_guids(image: &[u8]) {
     match guids::table(image) {
         guids::TotalsAnswer::Given(t) => {
-            show(b"ok total=");
-            io::print_decimal(STDOUT_FILENO, t.total as u64);
-            show(b" entries=");
-            io::print_decimal(STDOUT_FILENO, t.entries as u64);
+            show_decimal(b"ok total=", t.total as u64);
+            show_decimal(b" entries=", t.entries as u64);
             show(b"\n");
         }
         guids::TotalsAnswer::Refused(why) => show_refusal(why),
@@ -76,7 +101,7 @@ fn three_entries() {
 fn show_directory(buf: &[u8]) {
     match directory::directory_by_cookie(buf, directory::psp_kind(), 512, Offset(0)) {
         directory::DirectoryAnswer::Given(d) => show_total(d.total()),
-        directory::DirectoryAnswer::Refused(why) => show_refusal(why),
+        directory::DirectoryAnswer::Refused(why) => show_fault(why),
     }
 }
 
@@ -120,7 +145,7 @@ fn largest_directory() {
 fn show_built(answer: build::TotalAnswer) {
     match answer {
         build::TotalAnswer::Given(total) => show_total(total),
-        build::TotalAnswer::Refused(why) => show_refusal(why),
+        build::TotalAnswer::Refused(why) => show_fault(why),
     }
 }
 
@@ -141,11 +166,10 @@ fn range_of(size: u32) {
             let begin = p.place;
             show(b"ok place=0x");
             io::print_hex(STDOUT_FILENO, begin.0 as u64, 1);
-            show(b" length=");
-            io::print_decimal(STDOUT_FILENO, p.length as u64);
+            show_decimal(b" length=", p.length as u64);
             show(b"\n");
         }
-        PartAnswer::Refused(why) => show_refusal(why),
+        PartAnswer::Refused(why) => show_fault(why),
     }
 }
 

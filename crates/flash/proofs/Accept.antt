@@ -4,17 +4,17 @@ use mathlib.Core.List.{List}
 use Prim.Native.Nat.{ℕ, _≤_}
 use native.Mathlib.Omega.{arith}
 use lib.ListN.{length}
-use Rattle.reply.specs.Reply.{Reply, given, then}
+use Rattle.reply.specs.Reply.{Reply, given, inEntry, then, met}
 use Rattle.reply.proofs.ReplyLaws.{then-given}
 use Rattle.window.specs.Window.{fourGiB}
 use Rattle.window.specs.declared.Offset.{Offset}
 use Rattle.directory.specs.Directory.{directoryAt}
-use Rattle.entries.specs.Entry.{entryOf, leadIn}
+use Rattle.entries.specs.Entry.{entryOf}
 use Rattle.entries.specs.Part.{leadsTo}
 use Rattle.directory.specs.Good.{GoodDirectory}
 use Rattle.entries.specs.Good.{Leads, BeginsAt}
 use Rattle.directory.specs.declared.Directory.{Directory}
-use Rattle.entries.specs.declared.Entry.{Entry}
+use Rattle.entries.specs.declared.Lead.{Lead}
 use Rattle.directory.proofs.Accept.{acceptance}
 use Rattle.entries.proofs.Lowest.{lowest-lead}
 use Rattle.entries.proofs.PartAccept.{two-bits, lead-fact, lead-given}
@@ -26,7 +26,7 @@ use Rattle.efs.specs.declared.Pointer.{Pointer}
 use Rattle.efs.proofs.Accept.{pointer-acceptance}
 use Rattle.flash.specs.Flash.{levelOne, levelTwoAt, levelTwo, flashDirectory}
 use Rattle.flash.specs.Good.{GoodOne, GoodTwo, GoodLevel, of-one, of-two, FlashAcceptance, LevelsAccepted}
-use Rattle.flash.proofs.Ways.{Opened, one, two, opened, open-one, open-two}
+use Rattle.flash.proofs.Ways.{Opened, one, two, opened, open-one, open-two, led-given}
 
 -- a directory begins within the image
 begins : (r : Rules) (s : List ℕ) (d : Directory) → GoodDirectory (r .kind) (r .limit) s d → d .place .0 ≤ length s
@@ -52,18 +52,18 @@ module _ (r : Rules) (s : List ℕ) (d : Directory) where
 module _ (r : Rules) (fits : r .window ≤ fourGiB) (s : List ℕ) (d above : Directory) where
   only-two : levelOne r s ≡ given above → levelTwo r s above ≡ given d → GoodTwo r s d
   only-two a e =
-      let k = then-given (leadIn (r .kind) s above) (levelTwoAt r s (above .place .0)) e in
-      let p = then-given (leadsTo (r .window) s (above .place .0) (k .0)) (λ p. directoryAt (r .kind) (r .limit) 2 s (p .0)) (k .2) in
-      let l = lowest-lead .found-only (r .kind) s above (k .0) (k .1) in
-      let g = acceptance .only (r .kind) (r .limit) 2 s (p .0 .0) d (p .2) in
-      let q : leadsTo (r .window) s (above .place .0) (entryOf (r .kind) s above (l .0)) ≡ given (p .0) = ap (leadsTo (r .window) s (above .place .0)) (l .2) ∙ p .1 in
-      let b = lead-fact (r .window) fits s (above .place .0) (entryOf (r .kind) s above (l .0)) (p .0) (two-bits s _) q in
-      record { above = above; one = only-one r s above fits a; lead = l .0; leads = l .1; begins = subst (BeginsAt (r .window) (above .place .0) (entryOf (r .kind) s above (l .0))) (sym (g .1)) (b .0); directory = g .0; level = g .2 }
+      let t = led-given r s above d e in
+      let i = t .0 .index in
+      let l = lowest-lead .found-only (r .kind) s above (t .0) (t .1) in
+      let g = acceptance .only (r .kind) (r .limit) 2 s (t .2 .0) d (t .4) in
+      let q : leadsTo (r .window) s (above .place .0) (entryOf (r .kind) s above i) ≡ given (t .2) = ap (leadsTo (r .window) s (above .place .0)) (l .1) ∙ t .3 in
+      let b = lead-fact (r .window) fits s (above .place .0) (entryOf (r .kind) s above i) (t .2) (two-bits s _) q in
+      record { above = above; one = only-one r s above fits a; lead = i; leads = l .0; begins = subst (BeginsAt (r .window) (above .place .0) (entryOf (r .kind) s above i)) (sym (g .1)) (b .0); directory = g .0; level = g .2 }
 
 all-two : (r : Rules) (fits : r .window ≤ fourGiB) (s : List ℕ) (d : Directory) (g : GoodTwo r s d) → levelTwo r s (g .above) ≡ given d
 all-two r fits s d g =
-    ap (λ (x : Reply Entry). then x (levelTwoAt r s (g .above .place .0))) (lowest-lead .found (r .kind) s (g .above) (g .lead) (g .leads))
-    ∙ ap (λ (x : Reply Offset). then x (λ p. directoryAt (r .kind) (r .limit) 2 s (p .0))) (lead-given (r .window) fits s (g .above .place .0) (entryOf (r .kind) s (g .above) (g .lead)) (d .place) (g .begins) (begins r s d (g .directory)))
+    ap (λ (x : Reply Lead). then x (λ l. levelTwoAt r s (g .above) (l .index) (l .entry))) (lowest-lead .found (r .kind) s (g .above) (g .lead) (g .leads))
+    ∙ ap (λ (x : Reply Offset). then (met (inEntry (g .above .level) (g .lead) (g .above .place .0)) x) (λ p. directoryAt (r .kind) (r .limit) 2 s (p .0))) (lead-given (r .window) fits s (g .above .place .0) (entryOf (r .kind) s (g .above) (g .lead)) (d .place) (g .begins) (begins r s d (g .directory)))
     ∙ at-level r s d 2 (g .level) (g .directory)
 
 only-level : (r : Rules) (level : ℕ) (s : List ℕ) (d : Directory) → r .window ≤ fourGiB → flashDirectory r level s ≡ given d → GoodLength s × GoodLevel r s d level

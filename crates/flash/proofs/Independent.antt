@@ -4,16 +4,16 @@ use mathlib.Core.List.{List}
 use Prim.Native.Nat.{ℕ, _+_, _≤_}
 use native.Mathlib.Omega.{arith}
 use lib.ListN.{length}
-use Rattle.reply.specs.Reply.{Reply, given, refused, alone, then}
+use Rattle.reply.specs.Reply.{Reply, given, inEntry, then, met}
 use Rattle.reply.proofs.ReplyLaws.{then-given, then-same}
 use Rattle.window.specs.Window.{offsetIn, within}
 use Rattle.window.specs.declared.Offset.{Offset}
 use Rattle.directory.specs.Directory.{directoryAt, entryPlace, totalAt}
-use Rattle.entries.specs.Entry.{entryIn, leadIn, findIn}
-use Rattle.entries.specs.Part.{leadsTo, partIn}
+use Rattle.entries.specs.Entry.{entryIn, findIn}
+use Rattle.entries.specs.Part.{partIn}
 use Rattle.directory.specs.Independent.{Agree, endOf}
 use Rattle.directory.specs.declared.Directory.{Directory}
-use Rattle.entries.specs.declared.Entry.{Entry}
+use Rattle.entries.specs.declared.Lead.{Lead}
 use Rattle.directory.proofs.Accept.{acceptance}
 use Rattle.entries.proofs.Accept.{entry-acceptance}
 use Rattle.directory.proofs.Independent.{independence}
@@ -25,7 +25,7 @@ use Rattle.efs.specs.declared.Rules.{Rules}
 use Rattle.flash.specs.Flash.{levelOne, levelTwo, levelTwoAt, flashDirectory, flashEntry, flashPart, fromLookup, flashFind}
 use Rattle.window.specs.Inside.{GoodLength}
 use Rattle.flash.specs.Independent.{SameWay, SameAnswers, FlashIndependence}
-use Rattle.flash.proofs.Ways.{Opened, one, two, opened, open-one, open-two}
+use Rattle.flash.proofs.Ways.{Opened, one, two, opened, open-one, open-two, led-given}
 
 -- a directory that is given is given by every image that agrees on it
 given-same : (r : Rules) (level : ℕ) (s t : List ℕ) (o : ℕ) (d : Directory) → 16 ≤ r .kind .entry → Agree s t (d .place .0) (endOf (r .kind) d) →
@@ -72,14 +72,13 @@ module _ (r : Rules) (level : ℕ) (s t : List ℕ) (wide : 16 ≤ r .kind .entr
       by : (l : ℕ) → l ≡ level → GoodLength s → Opened r s d l → flashDirectory r l t ≡ given d
       by l q z (one e) = open-one r t d (long z) (same-one z d (omega arith) e)
       by l q z (two above a e) =
-          let k = then-given (leadIn (r .kind) s above) (levelTwoAt r s (above .place .0)) e in
-          let p = then-given (leadsTo (r .window) s (above .place .0) (k .0)) (λ p. directoryAt (r .kind) (r .limit) 2 s (p .0)) (k .2) in
+          let k = led-given r s above d e in
           let lead = sym (entries-independence (r .kind) s t above wide (way .directories 1 (omega arith) above (open-one r s above z a)) .lead) ∙ k .1 in
-          let place = sym (leads-same (r .window) s t (way .long) (above .place .0) (k .0)) ∙ p .1 in
+          let place = sym (leads-same (r .window) s t (way .long) (above .place .0) (k .0 .entry)) ∙ k .3 in
           open-two r t d (long z) above (same-one z above (omega arith) a)
-          (ap (λ (x : Reply Entry). then x (levelTwoAt r t (above .place .0))) lead
-          ∙ ap (λ (x : Reply Offset). then x (λ p. directoryAt (r .kind) (r .limit) 2 t (p .0))) place
-          ∙ given-same r 2 s t (p .0 .0) d wide (way .directories 2 (omega arith) d (open-two r s d z above a e)) (p .2))
+          (ap (λ (x : Reply Lead). then x (λ l. levelTwoAt r t above (l .index) (l .entry))) lead
+          ∙ ap (λ (x : Reply Offset). then (met (inEntry (above .level) (k .0 .index) (above .place .0)) x) (λ p. directoryAt (r .kind) (r .limit) 2 t (p .0))) place
+          ∙ given-same r 2 s t (k .2 .0) d wide (way .directories 2 (omega arith) d (open-two r s d z above a e)) (k .4))
 
   -- whatever is asked of the directory
   same-after : {B : Type 0} (f : List ℕ → Directory → Reply B) (d : Directory) → flashDirectory r level s ≡ given d → (Agree s t (d .place .0) (endOf (r .kind) d) → f s d ≡ f t d) →

@@ -7,18 +7,20 @@ use native.Mathlib.Omega.{arith}
 use borrow.Author.Tests.{leb-true, le-leb, eqb-true, eqb-false, eq-eqb, ne-eqb}
 use lib.ListN.{length}
 use lib.Dec.{leb, eqb}
-use Rattle.reply.specs.Reply.{Reply, given, then}
-use Rattle.reply.proofs.ReplyLaws.{past, passed, then-given}
+use Rattle.reply.specs.Reply.{Reply, given, inEntry, then, met}
+use Rattle.reply.proofs.ReplyLaws.{past, passed, then-given, met-given}
+use Rattle.window.specs.declared.Offset.{Offset}
 use Rattle.directory.specs.Directory.{directoryAt}
 use Rattle.entries.specs.Entry.{leadIn}
 use Rattle.entries.specs.Part.{leadsTo}
 use Rattle.directory.specs.declared.Directory.{Directory}
+use Rattle.entries.specs.declared.Lead.{Lead}
 use Rattle.directory.proofs.Accept.{acceptance}
 use Rattle.efs.specs.Efs.{pointerIn}
 use Rattle.window.specs.Inside.{GoodLength}
 use Rattle.efs.specs.declared.Rules.{Rules}
 use Rattle.window.proofs.Length.{sized-passed, sized-past}
-use Rattle.flash.specs.Flash.{levelOne, levelTwoAt, levelTwo, levelOf, flashDirectory}
+use Rattle.flash.specs.Flash.{levelOne, levelTwo, levelOf, flashDirectory}
 
 -- the two ways to a directory
 pub data Opened (r : Rules) (s : List ℕ) (d : Directory) : ℕ → Type 0 where
@@ -52,6 +54,14 @@ module _ (r : Rules) (s : List ℕ) (d : Directory) where
   unfolding flashDirectory
   open-two z above e h = sized-passed s _ z ∙ ap (λ (x : Reply Directory). then x (levelTwo r s)) e ∙ h
 
+-- the steps of a level two that is given: the lead, the place where it leads, the directory there
+pub led-given : (r : Rules) (s : List ℕ) (above d : Directory) → levelTwo r s above ≡ given d →
+    (l : Lead) × (leadIn (r .kind) s above ≡ given l) × (p : Offset) × (leadsTo (r .window) s (above .place .0) (l .entry) ≡ given p) × (directoryAt (r .kind) (r .limit) 2 s (p .0) ≡ given d)
+led-given r s above d e =
+    let k = then-given (leadIn (r .kind) s above) _ e in
+    let p = then-given (met (inEntry (above .level) (k .0 .index) (above .place .0)) (leadsTo (r .window) s (above .place .0) (k .0 .entry))) _ (k .2) in
+    (k .0, k .1, p .0, met-given _ (leadsTo (r .window) s (above .place .0) (k .0 .entry)) (p .1), p .2)
+
 -- a directory that is given is small, and so is the image
 pub opened-small : (r : Rules) (s : List ℕ) (d : Directory) (level : ℕ) → flashDirectory r level s ≡ given d → GoodLength s × (d .total ≤ r .limit)
 opened-small r s d level e = let o = opened r s d level e in (o .0, by (o .1))
@@ -60,7 +70,4 @@ opened-small r s d level e = let o = opened r s d level e in (o .0, by (o .1))
     by (one q) =
         let t = then-given (pointerIn r s) (λ p. directoryAt (r .kind) (r .limit) 1 s (p .place .0)) q in
         acceptance .only (r .kind) (r .limit) 1 s (t .0 .place .0) d (t .2) .0 .few
-    by (two above a q) =
-        let k = then-given (leadIn (r .kind) s above) (levelTwoAt r s (above .place .0)) q in
-        let t = then-given (leadsTo (r .window) s (above .place .0) (k .0)) (λ p. directoryAt (r .kind) (r .limit) 2 s (p .0)) (k .2) in
-        acceptance .only (r .kind) (r .limit) 2 s (t .0 .0) d (t .2) .0 .few
+    by (two above a q) = let t = led-given r s above d q in acceptance .only (r .kind) (r .limit) 2 s (t .2 .0) d (t .4) .0 .few

@@ -3,7 +3,7 @@ use Prim.Native.Nat.{ℕ}
 use mathlib.Core.List.{List}
 use mathlib.Core.Bool.{cond}
 use lib.Dec.{leb, eqb}
-use Rattle.reply.specs.Reply.{Reply, given, refused, tested, guard, then}
+use Rattle.reply.specs.Reply.{Reply, given, refused, tested, inEntry, guard, then, met}
 use Rattle.directory.specs.Directory.{directoryAt}
 use Rattle.entries.specs.Entry.{entryIn, leadIn, findIn}
 use Rattle.entries.specs.Part.{leadsTo, partIn}
@@ -19,13 +19,13 @@ use Rattle.entries.specs.declared.Part.{Part}
 abbrev pub levelOne : Rules → (image : List ℕ) → Reply Directory
 levelOne r image = then (pointerIn r image) (λ p. directoryAt (r .kind) (r .limit) 1 image (p .place .0))
 
--- the directory of level two that entry e of a directory at o leads to
-abbrev pub levelTwoAt : Rules → (image : List ℕ) → (o : ℕ) → Entry → Reply Directory
-levelTwoAt r image o e = then (leadsTo (r .window) image o e) (λ place. directoryAt (r .kind) (r .limit) 2 image (place .0))
+-- the directory of level two that e, entry i of a directory, leads to; what is wrong in the entry's location carries the entry
+abbrev pub levelTwoAt : Rules → (image : List ℕ) → Directory → (i : ℕ) → Entry → Reply Directory
+levelTwoAt r image d i e = then (met (inEntry (d .level) i (d .place .0)) (leadsTo (r .window) image (d .place .0) e)) (λ place. directoryAt (r .kind) (r .limit) 2 image (place .0))
 
 -- the directory of level two: where level one leads by its lowest entry of type 0x40; none: 8
 abbrev pub levelTwo : Rules → (image : List ℕ) → Directory → Reply Directory
-levelTwo r image d = then (leadIn (r .kind) image d) (levelTwoAt r image (d .place .0))
+levelTwo r image d = then (leadIn (r .kind) image d) (λ l. levelTwoAt r image d (l .index) (l .entry))
 
 -- the directory of level one or two
 abbrev pub levelOf : Rules → (level : ℕ) → (image : List ℕ) → Reply Directory

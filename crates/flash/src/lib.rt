@@ -1,6 +1,6 @@
 // The calls on a flash image from its directory pointer on: the directories of both levels, their entries, their bytes, and the lookup in one of them.
 ghost use mathlib.Core.Path.{_≡_};
-ghost use Rattle.reply.specs.Reply.{refused, alone};
+ghost use Rattle.reply.specs.Reply.{refused, carriedOf};
 ghost use Rattle.directory.specs.Directory.{toldDirectory};
 ghost use Rattle.entries.specs.Entry.{toldEntry, toldMatch};
 ghost use Rattle.entries.specs.Part.{toldPart, bytesOf, beginOf};
@@ -14,10 +14,11 @@ use efs::PointerAnswer;
 use efs::Rules;
 use entries::Entry;
 use entries::EntryAnswer;
+use entries::LeadAnswer;
 use entries::MatchAnswer;
 use entries::PartAnswer;
-use reply::Refusal;
-use window::Offset;
+use reply::Fault;
+use reply::Met;
 use window::OffsetAnswer;
 
 // The directory of a level: its place, its level and its total.
@@ -73,8 +74,8 @@ pub fn find(image: &[u8], level: u32, class: u8, sub: u8) -> MatchAnswer
 }
 
 // A lookup's answer where there is no directory to look in.
-fn no_lookup(why: Refusal) -> MatchAnswer
-    ensures { λ r. ⌜ toldMatch r ≡ fromLookup (refused (why .number) alone) ⌝ }
+fn no_lookup(why: Fault) -> MatchAnswer
+    ensures { λ r. ⌜ toldMatch r ≡ fromLookup (refused (why .number) (carriedOf (why .met))) ⌝ }
 {
     if why.number == 8 {
         return MatchAnswer::Absent(0);
@@ -87,15 +88,15 @@ fn flash_directory(image: &[u8], rules: Rules, level: u32) -> DirectoryAnswer
     ensures { λ r. ⌜ toldDirectory r ≡ flashDirectory rules level (now (image .entry)) ⌝ }
 {
     if level < 1 {
-        return DirectoryAnswer::Refused(Refusal::RANGE);
+        return DirectoryAnswer::Refused(Fault::RANGE);
     }
     if 2 < level {
-        return DirectoryAnswer::Refused(Refusal::RANGE);
+        return DirectoryAnswer::Refused(Fault::RANGE);
     }
     if window::length_allowed(image) {
         level_of(image, rules, level)
     } else {
-        DirectoryAnswer::Refused(Refusal::IMAGE)
+        DirectoryAnswer::Refused(Fault::IMAGE)
     }
 }
 
@@ -125,7 +126,10 @@ fn level_one(image: &[u8], rules: Rules) -> DirectoryAnswer
             1,
             p.place,
         ),
-        PointerAnswer::Refused(why) => DirectoryAnswer::Refused(why),
+        PointerAnswer::Refused(why) => DirectoryAnswer::Refused(Fault {
+            number: why.number,
+            met: Met::Alone,
+        }),
     }
 }
 
@@ -135,16 +139,28 @@ fn level_two(image: &[u8], rules: Rules, d: Directory) -> DirectoryAnswer
     ensures { λ r. ⌜ toldDirectory r ≡ levelTwo rules (now (image .entry)) d ⌝ }
 {
     match entries::lead_in(image, rules.kind, d) {
-        EntryAnswer::Given(e) => level_two_at(image, rules, d.place(), e),
-        EntryAnswer::Refused(why) => DirectoryAnswer::Refused(why),
+        LeadAnswer::Given(l) => led_to(image, rules, d, l.index, l.entry),
+        LeadAnswer::Refused(why) => DirectoryAnswer::Refused(why),
     }
 }
 
-// The directory of level two that an entry of the directory at an offset leads to.
-pub fn level_two_at(image: &[u8], rules: Rules, at: Offset, e: Entry) -> DirectoryAnswer
-    ensures { λ r. ⌜ toldDirectory r ≡ sized (now (image .entry)) (levelTwoAt rules (now (image .entry)) (at .0) e) ⌝ }
+// The directory of level two that e, entry i of a directory, leads to.
+pub fn level_two_at(image: &[u8], rules: Rules, d: Directory, i: u32, e: Entry) -> DirectoryAnswer
+    ensures { λ r. ⌜ toldDirectory r ≡ sized (now (image .entry)) (levelTwoAt rules (now (image .entry)) d i e) ⌝ }
 {
-    match entries::leads_to(image, rules.window, at, e) {
+    if window::length_allowed(image) {
+        led_to(image, rules, d, i, e)
+    } else {
+        DirectoryAnswer::Refused(Fault::IMAGE)
+    }
+}
+
+// The same, in an image of a length that is allowed. What is wrong in the location was met in the entry.
+fn led_to(image: &[u8], rules: Rules, d: Directory, i: u32, e: Entry) -> DirectoryAnswer
+    requires { ⌜ lengthAllowed (now image) ≡ true ⌝ }
+    ensures { λ r. ⌜ toldDirectory r ≡ levelTwoAt rules (now (image .entry)) d i e ⌝ }
+{
+    match entries::leads_to(image, rules.window, d.place(), e) {
         OffsetAnswer::Given(place) => directory::directory_at(
             image,
             rules.kind,
@@ -152,6 +168,13 @@ pub fn level_two_at(image: &[u8], rules: Rules, at: Offset, e: Entry) -> Directo
             2,
             place,
         ),
-        OffsetAnswer::Refused(why) => DirectoryAnswer::Refused(why),
+        OffsetAnswer::Refused(why) => DirectoryAnswer::Refused(Fault {
+            number: why.number,
+            met: Met::Entry {
+                level: d.level(),
+                index: i,
+                directory: d.place().0,
+            },
+        }),
     }
 }

@@ -57,7 +57,7 @@ pub fn directory(image: &[u8], level: u32, words: &mut [u64]) -> u64
             let values = [place.0 as u64, level as u64, total as u64];
             lent::put(words, 0, &values)
         }
-        DirectoryAnswer::Refused(why) => why.number as u64,
+        DirectoryAnswer::Refused(why) => lent::put_fault(words, why),
     }
 }
 
@@ -76,7 +76,7 @@ pub fn repeated(image: &[u8], level: u32, words: &mut [u64]) -> u64
             ];
             lent::put(words, 0, &values)
         }
-        RepeatAnswer::Refused(why) => why.number as u64,
+        RepeatAnswer::Refused(why) => lent::put_fault(words, why),
     }
 }
 
@@ -96,7 +96,7 @@ pub fn entry(image: &[u8], level: u32, index: u64, words: &mut [u64]) -> u64
             ];
             lent::put(words, 0, &values)
         }
-        EntryAnswer::Refused(why) => why.number as u64,
+        EntryAnswer::Refused(why) => lent::put_fault(words, why),
     }
 }
 
@@ -112,6 +112,6 @@ pub fn part(image: &[u8], level: u32, index: u64, words: &mut [u64]) -> u64
             let values = [place, length];
             lent::put(words, 0, &values)
         }
-        PartAnswer::Refused(why) => why.number as u64,
+        PartAnswer::Refused(why) => lent::put_fault(words, why),
     }
 }

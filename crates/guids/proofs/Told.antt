@@ -1,7 +1,7 @@
 -- Two results of a call that fit its promise are equal. Assumes nothing.
 use mathlib.Core.Path.{_≡_, refl}
 use Prim.Native.Nat.{ℕ}
-use Rattle.reply.specs.Reply.{Reply, given, refused, alone, tested, Settled}
+use Rattle.reply.specs.Reply.{Reply, given, refused, alone, tested, inHeader, inEntry, Settled}
 use Rattle.reply.proofs.ReplyLaws.{one-by, settled}
 use Rattle.guids.specs.declared.GuidEntry.{GuidEntry}
 use Rattle.guids.specs.declared.Totals.{Totals}
@@ -57,6 +57,8 @@ abbrev guidMatchBack : Reply GuidMatch → GuidMatchAnswer
 guidMatchBack (given m) = guidMatchAnswer.Given m
 guidMatchBack (refused number alone) = guidMatchAnswer.Refused (record { number = number })
 guidMatchBack (refused number (tested n)) = guidMatchAnswer.Absent n
+guidMatchBack (refused number (inHeader level directory)) = guidMatchAnswer.Refused (record { number = number })
+guidMatchBack (refused number (inEntry level index directory)) = guidMatchAnswer.Refused (record { number = number })
 
 guid-match-back : (x : GuidMatchAnswer) → guidMatchBack (toldGuidMatch x) ≡ x
 guid-match-back (guidMatchAnswer.Given m) = refl

@@ -10,9 +10,9 @@ use lib.Seq.{drop-append-add}
 use Rattle.le.specs.Le.{leAt}
 use Rattle.le.specs.Field.{get}
 use lib.Dec.{ltb, eqb}
-use Rattle.reply.specs.Reply.{Reply, given, refused, alone, guard, then}
+use Rattle.reply.specs.Reply.{Reply, given, refused, alone, inEntry, guard, then, met}
 use Rattle.reply.specs.Scan.{Lowest}
-use Rattle.reply.proofs.ReplyLaws.{past, clash, then-given, either}
+use Rattle.reply.proofs.ReplyLaws.{past, clash, then-given, either, met-given}
 use Rattle.reply.proofs.ScanLaws.{scan-same}
 use Rattle.window.specs.Window.{fourGiB, offsetIn}
 use Rattle.window.specs.Inside.{Shown, GoodLength}
@@ -26,6 +26,7 @@ use Rattle.entries.specs.Entry.{entryOf, entryIn, leadStep, leadIn, matches, fo
 use Rattle.entries.specs.Part.{leadsTo, partIn}
 use Rattle.entries.specs.Good.{BeginsAt, physical, flash, counted, GoodPart}
 use Rattle.entries.specs.declared.Entry.{Entry}
+use Rattle.entries.specs.declared.Lead.{Lead}
 use Rattle.entries.specs.declared.Part.{Part}
 use Rattle.entries.proofs.Accept.{only-entry}
 use Rattle.entries.proofs.Lowest.{lowest-lead}
@@ -202,7 +203,7 @@ module _ (front s : List ℕ) (short : GoodLength s) (allowed : GoodLength (fron
   lead-in : (d : Directory) → leadIn pspKind t (movedDirectory n d) ≡ leadIn pspKind s d
   lead-in d =
       scan-same (leadStep pspKind t (movedDirectory n d)) (leadStep pspKind s d) (λ _. refused 8 alone) (d .total) 0
-      (λ j a b rest. ap (λ (e : Entry). cond (eqb (e .class) (pspKind .lead)) (given e) rest) (entry-of d j))
+      (λ j a b rest. ap (λ (e : Entry). cond (eqb (e .class) (pspKind .lead)) (given (record { index = j; entry = e })) rest) (entry-of d j))
 
   find-in : (d : Directory) (class sub : ℕ) → findIn pspKind t (movedDirectory n d) class sub ≡ findIn pspKind s d class sub
   find-in d class sub =
@@ -221,10 +222,13 @@ module _ (front s : List ℕ) (short : GoodLength s) (allowed : GoodLength (fron
       let l = long in
       lead-given (length t) (fits t allowed) t (n + o) e (moved n p) (begins o e (p .0) no-offset (f .0)) (omega (arith, f .1))
 
-  level-two-at : (o : ℕ) (e : Entry) (d : Directory) → e .mode ≤ 3 → NoOffset e → levelTwoAt (rulesOf s) s o e ≡ given d → levelTwoAt (rulesOf t) t (n + o) e ≡ given (movedDirectory n d)
-  level-two-at o e d m no-offset h =
-      let p = then-given (leadsTo (length s) s o e) (λ p. directoryAt pspKind 512 2 s (p .0)) h in
-      ap (λ (x : Reply Offset). then x (λ p. directoryAt pspKind 512 2 t (p .0))) (leads-to o e (p .0) m no-offset (p .1)) ∙ directory-at 2 (p .0 .0) d (p .2)
+  level-two-at : (above : Directory) (i : ℕ) (e : Entry) (d : Directory) → e .mode ≤ 3 → NoOffset e → levelTwoAt (rulesOf s) s above i e ≡ given d →
+      levelTwoAt (rulesOf t) t (movedDirectory n above) i e ≡ given (movedDirectory n d)
+  level-two-at above i e d m no-offset h =
+      let o = above .place .0 in
+      let p = then-given (met (inEntry (above .level) i o) (leadsTo (length s) s o e)) (λ p. directoryAt pspKind 512 2 s (p .0)) h in
+      let q = leads-to o e (p .0) m no-offset (met-given _ (leadsTo (length s) s o e) (p .1)) in
+      ap (λ (x : Reply Offset). then (met (inEntry (above .level) i (n + o)) x) (λ p. directoryAt pspKind 512 2 t (p .0))) q ∙ directory-at 2 (p .0 .0) d (p .2)
 
   part-in : (d : Directory) (i : ℕ) (p : Part) → NoOffset (entryOf pspKind s d i) → partIn pspKind (length s) s d i ≡ given p → partIn pspKind (length t) t (movedDirectory n d) i ≡ given (movedPart n p)
   part-in d i p no-offset h =
@@ -255,11 +259,11 @@ module _ (front s : List ℕ) (short : GoodLength s) (allowed : GoodLength (fron
 
     level-two : (above d : Directory) → levelOne (rulesOf s) s ≡ given above → levelTwo (rulesOf s) s above ≡ given d → levelTwo (rulesOf t) t (movedDirectory n above) ≡ given (movedDirectory n d)
     level-two above d first h =
-        let k = then-given (leadIn pspKind s above) (levelTwoAt (rulesOf s) s (above .place .0)) h in
+        let k = then-given (leadIn pspKind s above) (λ l. levelTwoAt (rulesOf s) s above (l .index) (l .entry)) h in
         let l = lowest-lead .found-only pspKind s above (k .0) (k .1) in
-        let m : k .0 .mode ≤ 3 = subst (λ (e : Entry). e .mode ≤ 3) (l .2) (two-bits s _) in
-        ap (λ (x : Reply Entry). then x (levelTwoAt (rulesOf t) t (n + above .place .0))) (lead-in above ∙ k .1)
-        ∙ level-two-at (above .place .0) (k .0) d m (way .lead above (k .0) (open-one (rulesOf s) s above short first) (k .1)) (k .2)
+        let m : k .0 .entry .mode ≤ 3 = subst (λ (e : Entry). e .mode ≤ 3) (l .1) (two-bits s _) in
+        ap (λ (x : Reply Lead). then x (λ l. levelTwoAt (rulesOf t) t (movedDirectory n above) (l .index) (l .entry))) (lead-in above ∙ k .1)
+        ∙ level-two-at above (k .0 .index) (k .0 .entry) d m (way .lead above (k .0) (open-one (rulesOf s) s above short first) (k .1)) (k .2)
 
     directory-call : (level : ℕ) (d : Directory) → flashDirectory (rulesOf s) level s ≡ given d → flashDirectory (rulesOf t) level t ≡ given (movedDirectory n d)
     directory-call level d h = by (opened (rulesOf s) s d level h .1)
@@ -293,14 +297,14 @@ module _ (front s : List ℕ) (short : GoodLength s) (allowed : GoodLength (fron
   movedStep (fault number carried) = fault number carried
 
   -- the steps of a directory's last entries, where what each leads to is moved as well
-  entries-from : (below-t below-s : Entry → List Step) (d : Directory) (m i : ℕ) →
-      ((j : ℕ) → j < i + m → below-t (entryOf pspKind s d j) ≡ map movedStep (below-s (entryOf pspKind s d j))) →
+  entries-from : (below-t below-s : (i : ℕ) → Entry → List Step) (d : Directory) (m i : ℕ) →
+      ((j : ℕ) → j < i + m → below-t j (entryOf pspKind s d j) ≡ map movedStep (below-s j (entryOf pspKind s d j))) →
       entriesFrom below-t pspKind t (movedDirectory n d) m i ≡ map movedStep (entriesFrom below-s pspKind s d m i)
   unfolding entriesFrom
   entries-from below-t below-s d zero i h = refl
   entries-from below-t below-s d (suc m) i h =
-      ap₂ (λ (x y : List Step). test (movedDirectory n d) i ∷ (x ++ y)) (ap below-t (entry-of d i) ∙ h i (omega arith)) (entries-from below-t below-s d m (i + 1) (λ j b. h j (omega arith)))
-      ∙ ap (λ (x : List Step). test (movedDirectory n d) i ∷ x) (sym (map-append movedStep (below-s (entryOf pspKind s d i)) (entriesFrom below-s pspKind s d m (i + 1))))
+      ap₂ (λ (x y : List Step). test (movedDirectory n d) i ∷ (x ++ y)) (ap (below-t i) (entry-of d i) ∙ h i (omega arith)) (entries-from below-t below-s d m (i + 1) (λ j b. h j (omega arith)))
+      ∙ ap (λ (x : List Step). test (movedDirectory n d) i ∷ x) (sym (map-append movedStep (below-s i (entryOf pspKind s d i)) (entriesFrom below-s pspKind s d m (i + 1))))
 
   -- a directory with nothing below it
   walked : (d : Directory) → walkOf 0 (rulesOf t) t (movedDirectory n d) ≡ map movedStep (walkOf 0 (rulesOf s) s d)
@@ -311,17 +315,17 @@ module _ (front s : List ℕ) (short : GoodLength s) (allowed : GoodLength (fron
 
   module _ (whole-way : AllFromTheEnd s) (d : Directory) (first : flashDirectory (rulesOf s) 1 s ≡ given d) where
     -- what entry j of level one leads to
-    below : (j : ℕ) → j < d .total → belowOf 1 (rulesOf t) t (movedDirectory n d) (entryOf pspKind s d j) ≡ map movedStep (belowOf 1 (rulesOf s) s d (entryOf pspKind s d j))
+    below : (j : ℕ) → j < d .total → belowOf 1 (rulesOf t) t (movedDirectory n d) j (entryOf pspKind s d j) ≡ map movedStep (belowOf 1 (rulesOf s) s d j (entryOf pspKind s d j))
     unfolding belowOf
     below j b = by (eqb (entryOf pspKind s d j .class) (pspKind .lead)) refl
       where
         by : (l : Bool) → eqb (entryOf pspKind s d j .class) (pspKind .lead) ≡ l →
-            cond l (walkedBy (walkOf 0 (rulesOf t) t) (levelTwoAt (rulesOf t) t (n + d .place .0) (entryOf pspKind s d j))) []
-            ≡ map movedStep (cond l (walkedBy (walkOf 0 (rulesOf s) s) (levelTwoAt (rulesOf s) s (d .place .0) (entryOf pspKind s d j))) [])
+            cond l (walkedBy (walkOf 0 (rulesOf t) t) (levelTwoAt (rulesOf t) t (movedDirectory n d) j (entryOf pspKind s d j))) []
+            ≡ map movedStep (cond l (walkedBy (walkOf 0 (rulesOf s) s) (levelTwoAt (rulesOf s) s d j (entryOf pspKind s d j))) [])
         by true q =
             let lead = eqb-true _ _ q in
             let g = whole-way .good d j first b lead in
-            ap (walkedBy (walkOf 0 (rulesOf t) t)) (level-two-at (d .place .0) (entryOf pspKind s d j) (g .0) (two-bits s _) (whole-way .leads d j first b lead) (g .1))
+            ap (walkedBy (walkOf 0 (rulesOf t) t)) (level-two-at d j (entryOf pspKind s d j) (g .0) (two-bits s _) (whole-way .leads d j first b lead) (g .1))
             ∙ walked (g .0)
             ∙ sym (ap (λ (x : Reply Directory). map movedStep (walkedBy (walkOf 0 (rulesOf s) s) x)) (g .1))
         by false q = refl

@@ -11,6 +11,7 @@ use Rattle.directory.specs.declared.Directory.{Directory}
 use Rattle.entries.specs.Entry.{entryOf, leadIn}
 use Rattle.entries.specs.Good.{Leads}
 use Rattle.entries.specs.declared.Entry.{Entry}
+use Rattle.entries.specs.declared.Lead.{Lead}
 use Rattle.entries.specs.declared.Part.{Part}
 use Rattle.efs.specs.Rules.{rulesOf}
 use Rattle.efs.specs.Efs.{flashEfs, flashPointer}
@@ -51,14 +52,14 @@ NoOffset e = e .mode ≡ 1 → ⊥
 -- no step of the way to a directory counts from the image's start: the EFS pointer is physical, and so or from the directory leads level one to level two
 pub record FromTheEnd (image : List ℕ) : Type 0 where
   pub pointer : (p : Pointer) → flashPointer (rulesOf image) image ≡ given p → fourGiB ≤ p .value + length image
-  pub lead : (d : Directory) (e : Entry) → flashDirectory (rulesOf image) 1 image ≡ given d → leadIn (rulesOf image .kind) image d ≡ given e → NoOffset e
+  pub lead : (d : Directory) (l : Lead) → flashDirectory (rulesOf image) 1 image ≡ given d → leadIn (rulesOf image .kind) image d ≡ given l → NoOffset (l .entry)
 
 -- nor does any other step of the walk through the whole image: each lead of level one leads to a good directory, and by no offset
 pub record AllFromTheEnd (image : List ℕ) : Type 0 where
   pub way : FromTheEnd image
   pub leads : (d : Directory) (i : ℕ) → flashDirectory (rulesOf image) 1 image ≡ given d → i < d .total → Leads (rulesOf image .kind) image d i → NoOffset (entryOf (rulesOf image .kind) image d i)
   pub good : (d : Directory) (i : ℕ) → flashDirectory (rulesOf image) 1 image ≡ given d → i < d .total → Leads (rulesOf image .kind) image d i →
-      (n : Directory) × (levelTwoAt (rulesOf image) image (d .place .0) (entryOf (rulesOf image .kind) image d i) ≡ given n)
+      (n : Directory) × (levelTwoAt (rulesOf image) image d i (entryOf (rulesOf image .kind) image d i) ≡ given n)
 
 -- what is given of an image, and of the image with these bytes before it
 pub record EndsAlike (front image : List ℕ) : Type 0 where

@@ -15,7 +15,8 @@ pub extern "C" fn kpalumere_version(bytes: &[u8], words: &mut [u64]) -> u64
     binary_words::version(bytes, words)
 }
 
-// One word: the version of the firmware binary that the bytes of an entry of the directory of a level are.
+// One word: the version of the firmware binary that the bytes of an entry of the directory of a level are. A refusal that was met in a header or an entry leaves
+// its place in four words.
 #[no_mangle]
 pub extern "C" fn kpalumere_entry_version(
     image: &[u8],

@@ -1,4 +1,5 @@
-// Flash images: the EFS, the directory pointer, the directory of a level, its entries, where their bytes lie, and the lookups.
+// Flash images: the EFS, the directory pointer, the directory of a level, its entries, where their bytes lie, the lookups, and what is wrong at a place. A refusal
+// that was met in a header or an entry leaves its place in four words.
 ghost use mathlib.Core.Path.{_≡_};
 ghost use Rattle.lent.specs.Lent.{numberLeft, wordsLeft};
 ghost use Rattle.efs.specs.Rules.{rulesOf};
@@ -9,6 +10,7 @@ ghost use Rattle.walk.specs.Walk.{findImage};
 ghost use Rattle.all_directories.specs.AllDirectories.{flashDirectories, layDirectories};
 ghost use Rattle.lookup_words.specs.Lookups.{layMatch, layImageMatch};
 ghost use Rattle.flash_words.specs.Images.{layEfs, layPointer, layDirectory, layRepeat, layEntry, layPart};
+ghost use Rattle.wrong.specs.Wrong.{wrongAt, layWrong};
 
 // Three words: the EFS's place, and its pointers at 0x10 and at 0x14 as they stand.
 #[no_mangle]
@@ -95,4 +97,20 @@ pub extern "C" fn kpalumere_find_image(image: &[u8], class: u8, sub: u8, words: 
     ensures { λ _. ⌜ now (words .exit) ≡ wordsLeft layImageMatch (findImage (rulesOf (now (image .entry))) (now (image .entry)) class sub) (now (words .entry)) ⌝ }
 {
     lookup_words::find_image(image, class, sub, words)
+}
+
+// Five words of what is wrong at a place that a refusal carries, which is where its directory begins, its level, and of an entry its index: the number, where the
+// field begins, its bytes, what stands there, and what should.
+#[no_mangle]
+pub extern "C" fn kpalumere_wrong(
+    image: &[u8],
+    place: usize,
+    level: u32,
+    index: usize,
+    words: &mut [u64],
+) -> u64
+    ensures { λ r. ⌜ r ≡ numberLeft layWrong (wrongAt (rulesOf (now (image .entry))) (now (image .entry)) place level index) (now (words .entry)) ⌝ }
+    ensures { λ _. ⌜ now (words .exit) ≡ wordsLeft layWrong (wrongAt (rulesOf (now (image .entry))) (now (image .entry)) place level index) (now (words .entry)) ⌝ }
+{
+    wrong::wrong(image, place, level, index, words)
 }

@@ -1,4 +1,5 @@
-// Views of a flash image's directories. A view crosses the boundary as the lent image and a place.
+// Views of a flash image's directories. A view crosses the boundary as the lent image and a place. A refusal that was met in a header or an entry leaves its
+// place in four words.
 ghost use mathlib.Core.Path.{_≡_};
 ghost use Rattle.lent.specs.Lent.{numberLeft, wordsLeft, layNumber};
 ghost use Rattle.efs.specs.Rules.{rulesOf};

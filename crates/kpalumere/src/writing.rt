@@ -13,7 +13,8 @@ pub extern "C" fn kpalumere_start(buf: &mut [u8], level: u32) -> u64
     build_words::start(buf, level)
 }
 
-// Extends the directory by an entry. One word: the new total; where there is no word, no byte is written either.
+// Extends the directory by an entry. One word: the new total; where there is no word, no byte is written either. A refusal of the directory that stands there
+// leaves its place in four words.
 #[no_mangle]
 pub extern "C" fn kpalumere_extend(
     buf: &mut [u8],

@@ -1,11 +1,13 @@
 -- What a call leaves that changes lent bytes and answers one word. Assumes nothing.
 use mathlib.Core.Path.{_≡_, refl, sym, ap}
 use mathlib.Core.List.{List, [], _∷_}
+use mathlib.Core.Bool.{Bool, true, false, cond}
 use Prim.Native.Nat.{ℕ, _<_, _≤_}
 use native.Mathlib.Omega.{arith}
 use borrow.Author.Tests.{le-leb}
 use lib.ListN.{length}
-use Rattle.reply.specs.Reply.{Reply, Carried, given, refused, alone, tested}
+use lib.Dec.{leb}
+use Rattle.reply.specs.Reply.{Reply, Carried, given, refused, alone, tested, inHeader, inEntry}
 use Rattle.lent.specs.Lent.{valuesOf, numberFor, wordsFor, numberLeft, wordsLeft, bytesLeft, layNumber}
 
 -- values that fit: the bytes are changed as the reply says
@@ -19,6 +21,15 @@ module _ {A : Type 0} (lay : A → List ℕ) (d : Reply A) (after : Reply A → 
 
   pub alone-bytes : (n : ℕ) → d ≡ refused n alone → after d ≡ bytesLeft lay d after before words
   alone-bytes n e = bytes-fit (rw e (omega arith))
+
+  -- a reply that changes no byte: whether its values fit or not
+  pub kept-bytes : after d ≡ before → after d ≡ bytesLeft lay d after before words
+  unfolding bytesLeft
+  kept-bytes e = by (leb (length (valuesOf lay d)) (length words))
+    where
+      by : (b : Bool) → after d ≡ cond b (after d) before
+      by true = refl
+      by false = e
 
 -- no words lent
 pub no-words : (words : List ℕ) → length words < 1 → words ≡ []
@@ -34,9 +45,13 @@ unfolding wordsFor
 words-none (given n) = refl
 words-none (refused number alone) = refl
 words-none (refused number (tested count)) = refl
+words-none (refused number (inHeader level directory)) = refl
+words-none (refused number (inEntry level index directory)) = refl
 
 pub bytes-none : (d : Reply ℕ) (after : Reply ℕ → List ℕ) (before : List ℕ) → ((number : ℕ) (carried : Carried) → after (refused number carried) ≡ before) → before ≡ bytesLeft layNumber d after before []
 unfolding bytesLeft
 bytes-none (given n) after before h = refl
 bytes-none (refused number alone) after before h = sym (h number alone)
 bytes-none (refused number (tested count)) after before h = refl
+bytes-none (refused number (inHeader level directory)) after before h = refl
+bytes-none (refused number (inEntry level index directory)) after before h = refl

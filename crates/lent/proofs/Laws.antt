@@ -6,8 +6,9 @@ use native.Mathlib.Omega.{arith}
 use lib.ListN.{length, getD, set, take, drop}
 use lib.Seq.{drop-cons, set-at, length-take-le, append-snoc, take-suc, take-length}
 use borrow.Author.Tests.{le-leb, lt-leb}
-use Rattle.reply.specs.Reply.{Reply, given, refused, alone, tested}
-use Rattle.lent.specs.Lent.{numberFor, wordsFor, numberLeft, wordsLeft}
+use Rattle.reply.specs.Reply.{Reply, given, refused, alone, tested, carriedOf}
+use Rattle.reply.specs.declared.Fault.{Fault}
+use Rattle.lent.specs.Lent.{layCarried, numberFor, wordsFor, numberLeft, wordsLeft}
 
 module _ (vs ws : List ℕ) where
   -- values that do not fit
@@ -49,7 +50,7 @@ module _ (vs ws now : List ℕ) (i : ℕ) (inv : now ≡ copied vs ws i) where
       let all : i ≡ length vs = omega arith in
       inv ∙ (ap (copied vs ws) all ∙ (ap (λ (l : List ℕ). l ++ drop (length vs) ws) (take-length vs) ∙ words-fits vs ws fits))
 
--- what an export leaves, once its reply is known: what it gives, a number with a count, or a number alone
+-- what an export leaves, once its reply is known: what it gives, a number with a count, a fault with its place, or a number alone
 module _ {A : Type 0} (lay : A → List ℕ) (d : Reply A) (ws : List ℕ) where
   pub given-number : (a : A) (k : ℕ) → d ≡ given a → k ≡ numberFor 0 (lay a) ws → k ≡ numberLeft lay d ws
   given-number a k e h = h ∙ ap (λ (r : Reply A). numberLeft lay r ws) (sym e)
@@ -62,6 +63,12 @@ module _ {A : Type 0} (lay : A → List ℕ) (d : Reply A) (ws : List ℕ) where
 
   pub tested-words : (n count : ℕ) (after : List ℕ) → d ≡ refused n (tested count) → after ≡ wordsFor (count ∷ []) ws → after ≡ wordsLeft lay d ws
   tested-words n count after e h = h ∙ ap (λ (r : Reply A). wordsLeft lay r ws) (sym e)
+
+  pub fault-number : (why : Fault) (k : ℕ) → d ≡ refused (why .number) (carriedOf (why .met)) → k ≡ numberFor (why .number) (layCarried (carriedOf (why .met))) ws → k ≡ numberLeft lay d ws
+  fault-number why k e h = h ∙ ap (λ (r : Reply A). numberLeft lay r ws) (sym e)
+
+  pub fault-words : (why : Fault) (after : List ℕ) → d ≡ refused (why .number) (carriedOf (why .met)) → after ≡ wordsFor (layCarried (carriedOf (why .met))) ws → after ≡ wordsLeft lay d ws
+  fault-words why after e h = h ∙ ap (λ (r : Reply A). wordsLeft lay r ws) (sym e)
 
   pub alone-number : (n : ℕ) → d ≡ refused n alone → n ≡ numberLeft lay d ws
   alone-number n e = number-fits [] ws n (omega arith) ∙ ap (λ (r : Reply A). numberLeft lay r ws) (sym e)

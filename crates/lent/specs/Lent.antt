@@ -4,18 +4,24 @@ use mathlib.Core.List.{List, [], _∷_, _++_}
 use mathlib.Core.Bool.{Bool, true, false, cond, _&&_}
 use lib.ListN.{length, drop}
 use lib.Dec.{leb, eqb}
-use Rattle.reply.specs.Reply.{Reply, given, refused, alone, tested}
+use Rattle.reply.specs.Reply.{Reply, Carried, given, refused, alone, tested, inHeader, inEntry}
 
 -- a call's number: 0 where it gives
 abbrev pub numberOf : {A : Type 0} → Reply A → ℕ
 numberOf (given a) = 0
 numberOf (refused number carried) = number
 
+-- what a number carries, as words: the count; or where it was met, in a header (1) or an entry (2), with level, index (0 of a header) and directory
+abbrev pub layCarried : Carried → List ℕ
+layCarried alone = []
+layCarried (tested count) = count ∷ []
+layCarried (inHeader level directory) = 1 ∷ level ∷ 0 ∷ directory ∷ []
+layCarried (inEntry level index directory) = 2 ∷ level ∷ index ∷ directory ∷ []
+
 -- a call's values: what it gives, laid out as words, or what its number carries
 abbrev pub valuesOf : {A : Type 0} → (lay : A → List ℕ) → Reply A → List ℕ
 valuesOf lay (given a) = lay a
-valuesOf lay (refused number alone) = []
-valuesOf lay (refused number (tested count)) = count ∷ []
+valuesOf lay (refused number carried) = layCarried carried
 
 -- the number answered, with values to be written: 12 where they do not fit the lent words
 unfoldable pub numberFor : (number : ℕ) → (values words : List ℕ) → ℕ

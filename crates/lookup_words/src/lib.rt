@@ -22,7 +22,7 @@ pub fn find(image: &[u8], level: u32, class: u8, sub: u8, words: &mut [u64]) -> 
             let values = [n as u64];
             lent::put(words, 8, &values)
         }
-        MatchAnswer::Refused(why) => why.number as u64,
+        MatchAnswer::Refused(why) => lent::put_fault(words, why),
     }
 }
 
@@ -46,6 +46,6 @@ pub fn find_image(image: &[u8], class: u8, sub: u8, words: &mut [u64]) -> u64
             let values = [n as u64];
             lent::put(words, 8, &values)
         }
-        ImageMatchAnswer::Refused(why) => why.number as u64,
+        ImageMatchAnswer::Refused(why) => lent::put_fault(words, why),
     }
 }

@@ -8,7 +8,7 @@ use native.Mathlib.Decide.{decLe}
 use lib.ListN.{length, getD, drop}
 use lib.Dec.{eqb, leb}
 use borrow.Author.Tests.{ne-eqb}
-use Rattle.reply.specs.Reply.{Reply, given, refused, alone, tested, guard}
+use Rattle.reply.specs.Reply.{Reply, given, refused, alone, guard}
 use Rattle.lent.specs.Lent.{numberOf, wordsFor}
 use Rattle.lent.proofs.Laws.{words-fits}
 use Rattle.firmware.specs.Rules.{freshFirmware}
@@ -34,13 +34,12 @@ use Rattle.mailbox_runs.proofs.Faithful.{all-faithful}
 -- ---- a refusal of the mailbox has a number of its own: neither 0 nor 12, and nothing beside it
 abbrev Plain : {A : Type 0} → Reply A → Type 0
 Plain (given a) = Unit {0}
-Plain (refused number alone) = (number ≡ 0 → ⊥) × (number ≡ 12 → ⊥)
-Plain (refused number (tested count)) = ⊥
+Plain (refused number carried) = (carried ≡ alone) × (number ≡ 0 → ⊥) × (number ≡ 12 → ⊥)
 
 module _ (m : Mailbox) where
   past-check : {A : Type 0} (b : Bool) (n : ℕ) (x : Reply (After A)) → (n ≡ 0 → ⊥) → (n ≡ 12 → ⊥) → Plain (leaves m x .answer) → Plain (leaves m (guard b n x) .answer)
   past-check true n x z t h = h
-  past-check false n x z t h = (z, t)
+  past-check false n x z t h = (refl, z, t)
 
   post-plain : (c n d : ℕ) → Plain (postOf m c n d .answer)
   unfolding postOf
@@ -69,8 +68,8 @@ module _ (m : Mailbox) where
       (past-check (leb c 7) 9 _ (λ e. omega arith) (λ e. omega arith) (go (stateOf m c)))
     where
       go : (s : PlaceState) → Plain (leaves m (takenFrom m c s) .answer)
-      go Free = (λ e. omega arith, λ e. omega arith)
-      go Waiting = (λ e. omega arith, λ e. omega arith)
+      go Free = (refl, λ e. omega arith, λ e. omega arith)
+      go Waiting = (refl, λ e. omega arith, λ e. omega arith)
       go (Ready w) = tt
 
 -- ---- what is laid into the value words is read there
@@ -98,13 +97,11 @@ module _ {A : Type 0} (lay : A → List ℕ) (small : (a : A) → length (lay a)
     (back : (a : A) (values : List ℕ) → length (lay a) ≤ length values → read (wordsFor (lay a) values) ≡ a) (how : Reply A → Seen) where
   told : (r : Reply A) (values : List ℕ) → Plain r → Room lay r values → readAs (read (valuesAfter lay r values)) (numberOf r) ≡ r
   told (given a) values p room = ap given (back a values room)
-  told (refused n alone) values p room = rw (ne-eqb n 0 (p .0))
-  told (refused n (tested count)) values p room = absurd p
+  told (refused n carried) values p room = rw (ne-eqb n 0 (p .1), p .0)
 
   not-12 : (r : Reply A) → Plain r → eqb (numberOf r) 12 ≡ false
   not-12 (given a) p = refl
-  not-12 (refused n alone) p = ne-eqb n 12 (p .1)
-  not-12 (refused n (tested count)) p = absurd p
+  not-12 (refused n carried) p = ne-eqb n 12 (p .2)
 
   has-room : (r : Reply A) (values : List ℕ) → Dec (Room lay r values)
   has-room (given a) values = decLe (length (lay a)) (length values)

@@ -7,10 +7,10 @@ use native.Mathlib.Omega.{arith}
 use borrow.Author.Tests.{le-leb, lt-leb, leb-false}
 use lib.ListN.{length}
 use lib.Dec.{leb, eqb}
-use Rattle.reply.specs.Reply.{Reply, Carried, given, refused, alone, guard, then}
-use Rattle.reply.proofs.ReplyLaws.{past, passed, failed, then-given}
+use Rattle.reply.specs.Reply.{Reply, Carried, given, refused, alone, inEntry, guard, then, met}
+use Rattle.reply.proofs.ReplyLaws.{past, passed, failed, then-given, met-given}
 use Rattle.directory.specs.Directory.{directoryAt, directoryByCookie}
-use Rattle.entries.specs.Entry.{entryIn, leadIn}
+use Rattle.entries.specs.Entry.{entryIn}
 use Rattle.entries.specs.Part.{leadsTo, partWithin, partOf, partIn, bytesOf, beginOf}
 use Rattle.directory.specs.declared.Directory.{Directory}
 use Rattle.entries.specs.declared.Entry.{Entry}
@@ -25,7 +25,7 @@ use Rattle.flash.specs.Flash.{flashDirectory, flashPart}
 use Rattle.window.specs.Window.{nearestTo, within}
 use Rattle.window.specs.Length.{longest, lengthAllowed}
 use Rattle.window.proofs.Length.{allowed-fact, sized-passed, sized-past}
-use Rattle.flash.proofs.Ways.{Opened, one, two, opened}
+use Rattle.flash.proofs.Ways.{Opened, one, two, opened, led-given}
 use Rattle.place.specs.Place.{checkAt, entryAt, partAt, heldBytes, heldPlace, viewImage, viewPlace, partThrough}
 use Rattle.place.specs.View.{GoodPlace, PlaceAcceptance, NearestPlace, SameThroughView, ViewOfLevel, PartOfImage}
 
@@ -61,10 +61,7 @@ module _ (r : Rules) (s : List ℕ) where
 
       by : {level : ℕ} → GoodLength s → Opened r s d level → GoodPlace r s (d .place .0) d
       by z (one e) = let t = then-given (pointerIn r s) _ e in at 1 (t .0 .place .0) z (t .2)
-      by z (two above e h) =
-          let t = then-given (leadIn (r .kind) s above) _ h in
-          let u = then-given (leadsTo (r .window) s (above .place .0) (t .0)) _ (t .2) in
-          at 2 (u .0 .0) z (u .2)
+      by z (two above e h) = let t = led-given r s above d h in at 2 (t .2 .0) z (t .4)
 
 -- what is asked of a directory next: its entry i, and where the bytes of that lie
 abbrev entry-next : (i : ℕ) → Rules → List ℕ → Directory → Reply Entry
@@ -176,8 +173,8 @@ module _ (r : Rules) (s : List ℕ) (place i : ℕ) where
       let t = then-given (checkAt r s place) _ a in
       let d = t .0 in
       let h : partIn (r .kind) (r .window) s d i ≡ given p = ap (λ (x : Reply Directory). then x (λ d. partIn (r .kind) (r .window) s d i)) (sym (t .1)) ∙ b in
-      let g : partOf (r .kind) (r .window) s (d .place .0) e ≡ given p = ap (λ (x : Reply Entry). then x (partOf (r .kind) (r .window) s (d .place .0))) (sym (t .2)) ∙ h in
-      let v = past (not (eqb (e .class) (r .kind .value))) _ _ _ g in
+      let g = ap (λ (x : Reply Entry). then x (λ e. met (inEntry (d .level) i (d .place .0)) (partOf (r .kind) (r .window) s (d .place .0) e))) (sym (t .2)) ∙ h in
+      let v = past (not (eqb (e .class) (r .kind .value))) _ _ _ (met-given _ (partOf (r .kind) (r .window) s (d .place .0) e) g) in
       let u = then-given (leadsTo (r .window) s (d .place .0) e) (partWithin s (e .size)) (v .1) in
       let w = past (leb (u .0 .0 + e .size) (length s)) _ _ _ (u .2) in
       cc (w .1)

@@ -9,7 +9,8 @@ use directory::DirectoryAnswer;
 use efs::Rules;
 use entries::EntryAnswer;
 use entries::PartAnswer;
-use reply::Refusal;
+use reply::Fault;
+use reply::Met;
 use window::Offset;
 use window::OffsetAnswer;
 
@@ -32,10 +33,13 @@ fn check_by(image: &[u8], rules: Rules, place: Offset) -> DirectoryAnswer
                 rules.limit,
                 at,
             ),
-            OffsetAnswer::Refused(why) => DirectoryAnswer::Refused(why),
+            OffsetAnswer::Refused(why) => DirectoryAnswer::Refused(Fault {
+                number: why.number,
+                met: Met::Alone,
+            }),
         }
     } else {
-        DirectoryAnswer::Refused(Refusal::IMAGE)
+        DirectoryAnswer::Refused(Fault::IMAGE)
     }
 }
 

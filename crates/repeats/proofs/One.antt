@@ -6,7 +6,7 @@ use Prim.Native.Nat.{ℕ, _<_, _≤_}
 use native.Mathlib.Omega.{arith}
 use borrow.Author.Tests.{leb-true, eqb-true, eqb-false}
 use lib.Dec.{leb, eqb}
-use Rattle.reply.specs.Reply.{Reply, Carried, given, refused, then}
+use Rattle.reply.specs.Reply.{Reply, Carried, given, refused, then, met}
 use Rattle.reply.proofs.ReplyLaws.{past, then-given}
 use Rattle.window.specs.declared.Offset.{Offset}
 use Rattle.directory.specs.Directory.{directoryAt}
@@ -17,7 +17,7 @@ use Rattle.directory.proofs.Named.{names-both}
 use Rattle.entries.specs.Entry.{leadIn, findIn}
 use Rattle.entries.specs.Part.{leadsTo}
 use Rattle.entries.specs.Good.{Matches}
-use Rattle.entries.specs.declared.Entry.{Entry}
+use Rattle.entries.specs.declared.Lead.{Lead}
 use Rattle.entries.specs.declared.Match.{Match}
 use Rattle.entries.proofs.Once.{no-repeats}
 use Rattle.efs.specs.Efs.{pointerIn}
@@ -28,7 +28,7 @@ use Rattle.flash.specs.Flash.{levelOne, levelTwo, levelTwoAt, flashDirectory, f
 use Rattle.window.specs.Inside.{GoodLength}
 use Rattle.efs.specs.declared.Pointer.{Pointer}
 use Rattle.window.proofs.Length.{sized-passed, sized-past}
-use Rattle.flash.proofs.Ways.{Opened, one, two, opened}
+use Rattle.flash.proofs.Ways.{Opened, one, two, opened, led-given}
 use Rattle.repeats.specs.Repeats.{repeatsOne, repeatsLed, repeatsBelow, repeatsTwo, flashRepeats}
 use Rattle.repeats.specs.One.{OneOfEach}
 
@@ -40,10 +40,7 @@ given-at level s d e = by level (opened (rulesOf s) s d level e .1)
     by l (one q) =
         let p = then-given (pointerIn (rulesOf s) s) (λ p. directoryAt (rulesOf s .kind) 512 1 s (p .place .0)) q in
         (1, p .0 .place .0, p .2)
-    by l (two above a q) =
-        let k = then-given (leadIn (rulesOf s .kind) s above) (levelTwoAt (rulesOf s) s (above .place .0)) q in
-        let p = then-given (leadsTo (rulesOf s .window) s (above .place .0) (k .0)) (λ (place : Offset). directoryAt (rulesOf s .kind) 512 2 s (place .0)) (k .2) in
-        (2, p .0 .0, p .2)
+    by l (two above a q) = let t = led-given (rulesOf s) s above d q in (2, t .2 .0, t .4)
 
 module _ (level : ℕ) (s : List ℕ) (d : Directory) (e : flashDirectory (rulesOf s) level s ≡ given d) where
   only-one : (class sub i j : ℕ) → i < d .total → j < d .total → Matches (rulesOf s .kind) s d class sub i → Matches (rulesOf s .kind) s d class sub j → i ≡ j
@@ -69,14 +66,14 @@ module _ (s : List ℕ) (r : Repeat) where
   named-two e =
       let t = then-given (flashDirectory (rulesOf s) 1 s) (repeatsBelow (rulesOf s) s) e in
       let k = then-given (leadIn (rulesOf s .kind) s (t .0)) (repeatsLed (rulesOf s) s (t .0)) (t .2) in
-      let p = then-given (leadsTo (rulesOf s .window) s (t .0 .place .0) (k .0)) (λ (place : Offset). repeatedAt (rulesOf s .kind) 512 2 s (place .0)) (k .2) in
+      let p = then-given (met _ (leadsTo (rulesOf s .window) s (t .0 .place .0) (k .0 .entry))) (λ (place : Offset). repeatedAt (rulesOf s .kind) 512 2 s (place .0)) (k .2) in
       let n = names-both .only (rulesOf s .kind) 512 2 s (p .0 .0) r (p .2) in
       let z = opened (rulesOf s) s (t .0) 1 (t .1) .0 in
       let first = sym (sized-passed s (levelOne (rulesOf s) s) z) ∙ t .1 in (
         n .0,
         sized-passed s (then (levelOne (rulesOf s) s) (levelTwo (rulesOf s) s)) z
             ∙ ap (λ (x : Reply Directory). then x (levelTwo (rulesOf s) s)) first
-            ∙ ap (λ (x : Reply Entry). then x (levelTwoAt (rulesOf s) s (t .0 .place .0))) (k .1)
+            ∙ ap (λ (x : Reply Lead). then x (λ l. levelTwoAt (rulesOf s) s (t .0) (l .index) (l .entry))) (k .1)
             ∙ ap (λ (x : Reply Offset). then x (λ place. directoryAt (rulesOf s .kind) 512 2 s (place .0))) (p .1)
             ∙ n .1,
       )

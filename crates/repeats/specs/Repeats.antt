@@ -3,13 +3,13 @@ use Prim.Native.Nat.{ℕ}
 use mathlib.Core.List.{List}
 use mathlib.Core.Bool.{cond}
 use lib.Dec.{leb, eqb}
-use Rattle.reply.specs.Reply.{Reply, guard, then}
+use Rattle.reply.specs.Reply.{Reply, inEntry, guard, then, met}
 use Rattle.directory.specs.Repeat.{repeatedAt}
 use Rattle.directory.specs.declared.Directory.{Directory}
 use Rattle.directory.specs.declared.Repeat.{Repeat}
 use Rattle.entries.specs.Entry.{leadIn}
 use Rattle.entries.specs.Part.{leadsTo}
-use Rattle.entries.specs.declared.Entry.{Entry}
+use Rattle.entries.specs.declared.Lead.{Lead}
 use Rattle.flash.specs.Flash.{flashDirectory}
 use Rattle.efs.specs.Efs.{flashPointer}
 use Rattle.efs.specs.declared.Rules.{Rules}
@@ -18,9 +18,9 @@ use Rattle.efs.specs.declared.Rules.{Rules}
 abbrev pub repeatsOne : Rules → (image : List ℕ) → Reply Repeat
 repeatsOne r image = then (flashPointer r image) (λ p. repeatedAt (r .kind) (r .limit) 1 image (p .place .0))
 
--- in the level two that entry e of a directory leads to
-abbrev pub repeatsLed : Rules → (image : List ℕ) → Directory → Entry → Reply Repeat
-repeatsLed r image d e = then (leadsTo (r .window) image (d .place .0) e) (λ place. repeatedAt (r .kind) (r .limit) 2 image (place .0))
+-- in the level two that an entry of a directory leads to; what is wrong in the entry's location carries the entry
+abbrev pub repeatsLed : Rules → (image : List ℕ) → Directory → Lead → Reply Repeat
+repeatsLed r image d l = then (met (inEntry (d .level) (l .index) (d .place .0)) (leadsTo (r .window) image (d .place .0) (l .entry))) (λ place. repeatedAt (r .kind) (r .limit) 2 image (place .0))
 
 -- in the level two below a directory of level one: where its lowest entry of type 0x40 leads
 abbrev pub repeatsBelow : Rules → (image : List ℕ) → Directory → Reply Repeat

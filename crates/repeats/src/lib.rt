@@ -3,7 +3,7 @@ ghost use mathlib.Core.Path.{_≡_};
 ghost use mathlib.Core.Bool.{true};
 ghost use Rattle.reply.specs.Reply.{then};
 ghost use Rattle.directory.specs.Repeat.{toldRepeat};
-ghost use Rattle.window.specs.Length.{lengthAllowed, sized};
+ghost use Rattle.window.specs.Length.{lengthAllowed};
 ghost use Rattle.efs.specs.Rules.{rulesOf};
 ghost use Rattle.repeats.specs.Repeats.{repeatsOne, repeatsLed, repeatsBelow, repeatsTwo, flashRepeats};
 use directory::Directory;
@@ -11,9 +11,10 @@ use directory::DirectoryAnswer;
 use directory::RepeatAnswer;
 use efs::PointerAnswer;
 use efs::Rules;
-use entries::Entry;
-use entries::EntryAnswer;
-use reply::Refusal;
+use entries::Lead;
+use entries::LeadAnswer;
+use reply::Fault;
+use reply::Met;
 use window::OffsetAnswer;
 
 // Those of level one.
@@ -28,15 +29,19 @@ fn repeats_one(image: &[u8]) -> RepeatAnswer
             1,
             p.place,
         ),
-        PointerAnswer::Refused(why) => RepeatAnswer::Refused(why),
+        PointerAnswer::Refused(why) => RepeatAnswer::Refused(Fault {
+            number: why.number,
+            met: Met::Alone,
+        }),
     }
 }
 
-// Those of the level two that an entry of a directory leads to.
-fn repeats_led(image: &[u8], d: Directory, e: Entry) -> RepeatAnswer
-    ensures { λ r. ⌜ toldRepeat r ≡ sized (now (image .entry)) (repeatsLed (rulesOf (now (image .entry))) (now (image .entry)) d e) ⌝ }
+// Those of the level two that an entry of a directory leads to, in an image of a length that is allowed.
+fn repeats_led(image: &[u8], d: Directory, l: Lead) -> RepeatAnswer
+    requires { ⌜ lengthAllowed (now image) ≡ true ⌝ }
+    ensures { λ r. ⌜ toldRepeat r ≡ repeatsLed (rulesOf (now (image .entry))) (now (image .entry)) d l ⌝ }
 {
-    match entries::leads_to(image, image.len(), d.place(), e) {
+    match entries::leads_to(image, image.len(), d.place(), l.entry) {
         OffsetAnswer::Given(place) => directory::repeated_at(
             image,
             directory::psp_kind(),
@@ -44,7 +49,14 @@ fn repeats_led(image: &[u8], d: Directory, e: Entry) -> RepeatAnswer
             2,
             place,
         ),
-        OffsetAnswer::Refused(why) => RepeatAnswer::Refused(why),
+        OffsetAnswer::Refused(why) => RepeatAnswer::Refused(Fault {
+            number: why.number,
+            met: Met::Entry {
+                level: d.level(),
+                index: l.index,
+                directory: d.place().0,
+            },
+        }),
     }
 }
 
@@ -54,8 +66,8 @@ fn repeats_below(image: &[u8], d: Directory) -> RepeatAnswer
     ensures { λ r. ⌜ toldRepeat r ≡ repeatsBelow (rulesOf (now (image .entry))) (now (image .entry)) d ⌝ }
 {
     match entries::lead_in(image, directory::psp_kind(), d) {
-        EntryAnswer::Given(e) => repeats_led(image, d, e),
-        EntryAnswer::Refused(why) => RepeatAnswer::Refused(why),
+        LeadAnswer::Given(l) => repeats_led(image, d, l),
+        LeadAnswer::Refused(why) => RepeatAnswer::Refused(why),
     }
 }
 
@@ -74,10 +86,10 @@ pub fn repeated(image: &[u8], level: u32) -> RepeatAnswer
     ensures { λ r. ⌜ toldRepeat r ≡ flashRepeats (rulesOf (now (image .entry))) level (now (image .entry)) ⌝ }
 {
     if level < 1 {
-        return RepeatAnswer::Refused(Refusal::RANGE);
+        return RepeatAnswer::Refused(Fault::RANGE);
     }
     if 2 < level {
-        return RepeatAnswer::Refused(Refusal::RANGE);
+        return RepeatAnswer::Refused(Fault::RANGE);
     }
     if level == 1 {
         return repeats_one(image);

@@ -3,7 +3,11 @@ use mathlib.Core.Path.{_≡_, refl, sym, ap, _∙_}
 use mathlib.Core.Bool.{Bool, true, false, cond}
 use Prim.Native.Nat.{ℕ}
 use native.Mathlib.Omega.{arith}
-use Rattle.reply.specs.Reply.{Reply, Carried, given, refused, check, then, OneToOne, Settled}
+use Rattle.reply.specs.Reply.{Reply, Carried, given, refused, check, then, met, carriedOf, OneToOne, Settled}
+use Rattle.reply.specs.Back.{metBy, faultBy}
+use Rattle.reply.specs.declared.Met.{Met}
+use Rattle.reply.specs.declared.Met.the-variants as place
+use Rattle.reply.specs.declared.Fault.{Fault}
 
 -- given is never refused
 pub clash : {A : Type 0} {B : Type 0} {n : ℕ} {c : Carried} {a : A} → refused n c ≡ given a → B
@@ -63,3 +67,17 @@ one-by told back h x y e = sym (h x) ∙ ap back e ∙ h y
 pub check-same : {A : Type 0} (b : Bool) (number : ℕ) (carried : Carried) (r q : Reply A) → (b ≡ true → r ≡ q) → check b number carried r ≡ check b number carried q
 check-same true number carried r q h = h refl
 check-same false number carried r q h = refl
+
+-- a fault from what it tells, and the way back
+pub met-back : (m : Met) → metBy (carriedOf m) ≡ m
+met-back place.Alone = refl
+met-back (place.Header level directory) = refl
+met-back (place.Entry level index directory) = refl
+
+pub fault-back : (why : Fault) → faultBy (why .number) (carriedOf (why .met)) ≡ why
+fault-back why = ap {A = Met} {B = Fault} (λ m. record { number = why .number; met = m }) (met-back (why .met))
+
+-- where a refusal was met matters to no reply that gives
+pub met-given : {A : Type 0} {a : A} (here : Carried) (r : Reply A) → met here r ≡ given a → r ≡ given a
+met-given here (given a) e = e
+met-given here (refused number carried) e = clash e

@@ -6,7 +6,6 @@ use native.Mathlib.Numerals.{add-one}
 use native.Mathlib.Omega.{arith}
 use borrow.Author.Tests.{eqb-true, eqb-false, ltb-true, ltb-false, lt-ltb, le-ltb}
 use lib.Dec.{eqb, ltb}
-use Rattle.reply.specs.Scan.{Lowest}
 use Rattle.reply.specs.Some.{someBelow, firstBelow}
 use Rattle.reply.proofs.ReplyLaws.{apart}
 use Rattle.reply.proofs.ScanLaws.{First, hit, miss, first, scan-hit, scan-miss}
@@ -47,21 +46,6 @@ some-true test n j h t = by (someBelow test n) refl
     by : (b : Bool) → someBelow test n ≡ b → b ≡ true
     by true e = refl
     by false e = apart t (none-below test n e j h)
-
--- a test that holds of some number holds of a lowest one
-pub some-lowest : (test : ℕ → Bool) (n : ℕ) → someBelow test n ≡ true → (k : ℕ) × Lowest (λ j. test j ≡ true) n k
-unfolding someBelow
-some-lowest test zero e = apart e refl
-some-lowest test (suc n) e = by (someBelow test n) refl (test n) refl e (some-lowest test n)
-  where
-    wider : (k : ℕ) × Lowest (λ j. test j ≡ true) n k → (k : ℕ) × Lowest (λ j. test j ≡ true) (suc n) k
-    wider (k, l) = (k, record { inside = let i = l .inside in omega arith; here = l .here; earlier = l .earlier })
-
-    by : (s : Bool) → someBelow test n ≡ s → (t : Bool) → test n ≡ t → (t || s) ≡ true →
-        (someBelow test n ≡ true → (k : ℕ) × Lowest (λ j. test j ≡ true) n k) → (k : ℕ) × Lowest (λ j. test j ≡ true) (suc n) k
-    by true q t h f r = wider (r q)
-    by false q true h f r = (n, record { inside = omega arith; here = h; earlier = λ j l y. apart y (none-below test n q j l) })
-    by false q false h f r = apart f refl
 
 -- r is the first number below n of which a test holds, or n
 pub record Found (test : ℕ → Bool) (n r : ℕ) : Type 0 where

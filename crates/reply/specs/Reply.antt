@@ -2,11 +2,16 @@
 use Prim.Native.Nat.{ℕ}
 use mathlib.Core.Path.{_≡_}
 use mathlib.Core.Bool.{Bool, true, false}
+use Rattle.reply.specs.declared.Met.{Met}
+use Rattle.reply.specs.declared.Met.the-variants as place
 
--- what a number carries besides itself: nothing, or the count of entries tested
+-- what a number carries besides itself: nothing, the count of entries tested, or where it was met: in the header of a directory of a level (0 where no
+-- cookie told it), or in an entry of one; the directory by the offset where it begins
 pub data Carried : Type 0 where
   alone : Carried
   tested : ℕ → Carried
+  inHeader : (level directory : ℕ) → Carried
+  inEntry : (level index directory : ℕ) → Carried
 
 -- what a call answers: what it gives, or document 01's number with what that number carries
 pub data Reply (A : Type 0) : Type 0 where
@@ -26,6 +31,17 @@ guard holds number rest = check holds number alone rest
 abbrev pub then : {A : Type 0} {B : Type 0} → Reply A → (A → Reply B) → Reply B
 then (given a) next = next a
 then (refused number carried) next = refused number carried
+
+-- a refusal was met here; what is given stays
+abbrev pub met : {A : Type 0} → Carried → Reply A → Reply A
+met here (given a) = given a
+met here (refused number carried) = refused number here
+
+-- where a fault was met, as its number carries it
+abbrev pub carriedOf : Met → Carried
+carriedOf place.Alone = alone
+carriedOf (place.Header level directory) = inHeader level directory
+carriedOf (place.Entry level index directory) = inEntry level index directory
 
 -- no two answers of a call tell the same
 abbrev pub OneToOne : {E : Type 0} {A : Type 0} → (E → Reply A) → Type 0

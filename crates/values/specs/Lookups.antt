@@ -1,7 +1,7 @@
 -- Lookups in a level and in the whole image, at which two neighbouring checks fail, or a fault stands before or behind a match, with the whole answer that is due: rows of what is stated in Orders.antt. Assumes nothing: these are definitions.
 use Prim.Native.Nat.{ℕ}
 use mathlib.Core.List.{List, [], _∷_, _++_}
-use Rattle.reply.specs.Reply.{Reply, given, refused, alone, tested}
+use Rattle.reply.specs.Reply.{Reply, given, refused, alone, tested, inHeader, inEntry}
 use Rattle.entries.specs.declared.Match.{Match}
 use Rattle.walk.specs.declared.ImageMatch.{ImageMatch}
 use Rattle.build.specs.Write.{entryBytes}
@@ -41,14 +41,14 @@ findRows =
     ∷ sought (1, zeros 36, 1) (refused 2 alone)
     ∷ sought (1, efs 0xFFFF_FFFF 0, 1) (refused 8 (tested 0))  -- no pointer
     ∷ sought (1, efs 35 0x0100_0000, 1) (refused 7 alone)
-    ∷ sought (1, efs 0 35, 1) (refused 1 alone)  -- level one's numbers
-    ∷ sought (1, oneWith 2 (plain 1 ++ entryWith 2 1), 1) (refused 5 alone)  -- also for a fault behind the match
+    ∷ sought (1, efs 0 35, 1) (refused 1 (inHeader 1 35))  -- level one's numbers
+    ∷ sought (1, oneWith 2 (plain 1 ++ entryWith 2 1), 1) (refused 5 (inEntry 1 1 36))  -- also for a fault behind the match
     ∷ sought (1, oneWith 2 (plain 1 ++ plain 2), 1) (inLevel 0 1)
     ∷ sought (1, oneWith 2 (plain 1 ++ plain 2), 2) (inLevel 1 2)
     ∷ sought (1, oneWith 2 (plain 1 ++ plain 2), 3) (refused 8 (tested 2))
     ∷ sought (2, oneWith 1 (plain 1), 1) (refused 8 (tested 0))  -- no lead
-    ∷ sought (2, oneWith 1 (lead 0 3 69), 1) (refused 16 alone)  -- 16 before 7
-    ∷ sought (2, oneWith 1 (lead 0 1 69), 1) (refused 7 alone)
+    ∷ sought (2, oneWith 1 (lead 0 3 69), 1) (refused 16 (inEntry 1 0 36))  -- 16 before 7
+    ∷ sought (2, oneWith 1 (lead 0 1 69), 1) (refused 7 (inEntry 1 0 36))
     ∷ sought (2, oneWith 1 (lead 0 1 68) ++ twoWith 1 (plain 1), 1) (inLevel 0 1)
     ∷ sought (2, oneWith 1 (lead 0 1 68) ++ twoWith 1 (plain 1), 2) (refused 8 (tested 1))
     ∷ []
@@ -71,31 +71,31 @@ findImageRows =
     ∷ sought (zeros 36, 1, 0) (refused 2 alone)
     ∷ sought (efs 0xFFFF_FFFF 0, 1, 0) (refused 8 (tested 0))  -- no pointer
     ∷ sought (efs 35 0x0100_0000, 1, 0) (refused 7 alone)
-    ∷ sought (efs 0 35, 1, 0) (refused 1 alone)  -- level one's numbers
-    ∷ sought (oneWith 2 (plain 1 ++ entryWith 2 1), 1, 0) (refused 5 alone)  -- also for a fault behind the match
+    ∷ sought (efs 0 35, 1, 0) (refused 1 (inHeader 1 35))  -- level one's numbers
+    ∷ sought (oneWith 2 (plain 1 ++ entryWith 2 1), 1, 0) (refused 5 (inEntry 1 1 36))  -- also for a fault behind the match
     ∷ sought (oneWith 2 (plain 1 ++ plain 2), 2, 0) (inImage 36 1 1 2)
     ∷ sought (oneWith 2 (plain 1 ++ plain 2), 2, 1) (refused 8 (tested 2))
     -- a lead at fault: before the match it is the answer, behind the match it is not met
-    ∷ sought (leadThenOne 3 85, 1, 0) (refused 16 alone)  -- 16 before 7
-    ∷ sought (leadThenOne 1 85, 1, 0) (refused 7 alone)  -- 7 before 1
-    ∷ sought (leadThenOne 0 0xFFFF_FFAB, 1, 0) (refused 7 alone)  -- just below the window of 84 bytes
-    ∷ sought (leadThenOne 1 84, 1, 0) (refused 1 alone)  -- level two's numbers
-    ∷ sought (leadThenOne 2 0, 1, 0) (refused 2 alone)
-    ∷ sought (leadThenOne 2 48 ++ directoryWith two 1 0 0 [], 1, 0) (refused 4 alone)
+    ∷ sought (leadThenOne 3 85, 1, 0) (refused 16 (inEntry 1 0 36))  -- 16 before 7
+    ∷ sought (leadThenOne 1 85, 1, 0) (refused 7 (inEntry 1 0 36))  -- 7 before 1
+    ∷ sought (leadThenOne 0 0xFFFF_FFAB, 1, 0) (refused 7 (inEntry 1 0 36))  -- just below the window of 84 bytes
+    ∷ sought (leadThenOne 1 84, 1, 0) (refused 1 (inHeader 2 84))  -- level two's numbers
+    ∷ sought (leadThenOne 2 0, 1, 0) (refused 2 (inHeader 2 36))
+    ∷ sought (leadThenOne 2 48 ++ directoryWith two 1 0 0 [], 1, 0) (refused 4 (inHeader 2 84))
     ∷ sought (oneWith 2 (plain 1 ++ lead 0 3 0), 1, 0) (inImage 36 1 0 1)
-    ∷ sought (oneWith 2 (plain 1 ++ lead 0 3 0), 2, 0) (refused 16 alone)
+    ∷ sought (oneWith 2 (plain 1 ++ lead 0 3 0), 2, 0) (refused 16 (inEntry 1 1 36))
     -- a lead is tested before what it leads to
     ∷ sought (leadThenOne 3 0, 0x40, 0) (inImage 36 1 0 1)
-    ∷ sought (leadThenOne 3 0, 0x40, 1) (refused 16 alone)  -- another subprogram: it is entered
+    ∷ sought (leadThenOne 3 0, 0x40, 1) (refused 16 (inEntry 1 0 36))  -- another subprogram: it is entered
     -- level two before the next entry of level one
     ∷ sought (leadThenOne 1 84 ++ twoWith 2 (plain 2 ++ plain 1), 1, 0) (inImage 84 2 1 3)
     ∷ sought (leadThenOne 1 84 ++ twoWith 2 (plain 2 ++ plain 3), 1, 0) (inImage 36 1 1 4)
     ∷ sought (leadThenOne 1 84 ++ twoWith 2 (plain 2 ++ plain 3), 4, 0) (refused 8 (tested 4))
-    ∷ sought (leadThenOne 1 84 ++ twoWith 2 (plain 1 ++ entryWith 2 1), 1, 0) (refused 5 alone)  -- a fault behind the match
+    ∷ sought (leadThenOne 1 84 ++ twoWith 2 (plain 1 ++ entryWith 2 1), 1, 0) (refused 5 (inEntry 2 1 84))  -- a fault behind the match
     ∷ sought (leadThenOne 1 84 ++ twoWith 0 [], 1, 0) (inImage 36 1 1 2)
     -- a directory entered twice counts twice; one that is not yet entered is not checked
     ∷ sought (twoLeads 1, 3, 0) (refused 8 (tested 6))
     ∷ sought (twoLeads 1, 0x40, 1) (inImage 36 1 1 4)
     ∷ sought (twoLeads 3, 1, 0) (inImage 84 2 1 3)
-    ∷ sought (twoLeads 3, 3, 0) (refused 16 alone)
+    ∷ sought (twoLeads 3, 3, 0) (refused 16 (inEntry 1 1 36))
     ∷ []

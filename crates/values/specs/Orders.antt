@@ -1,8 +1,9 @@
--- Each order of checks gives the number of the first that fails, stated for rows of inputs: no two neighbours have exchanged places or numbers. The proof stands in proofs/Orders.antt.
+-- Each order of checks gives the number of the first that fails, and where it was met, stated for rows of inputs: no two neighbours have exchanged places or numbers. The proof stands in proofs/Orders.antt.
 use Prim.Native.Nat.{ℕ}
 use mathlib.Core.Path.{_≡_}
 use mathlib.Core.List.{List, map}
 use lib.ListN.{length, replicate}
+use Rattle.reply.specs.Reply.{Reply, Carried, given, refused, alone}
 use Rattle.lent.specs.Lent.{numberOf}
 use Rattle.directory.specs.Directory.{pspKind, directoryOf, directoryAt}
 use Rattle.entries.specs.Part.{partIn}
@@ -26,21 +27,30 @@ use Rattle.values.specs.Mailboxes.{consistentRows, postRows, takeRows, s
 abbrev pub Right : {A : Type 0} → (A → ℕ) → List (Row A) → Type 0
 Right answered rows = map (λ r. answered (r .input)) rows ≡ map (λ r. r .number) rows
 
+-- what a call's number carries: nothing where it gives
+abbrev pub carriedBy : {A : Type 0} → Reply A → Carried
+carriedBy (given a) = alone
+carriedBy (refused number carried) = carried
+
+-- every row has the number that is answered, and what it carries
+abbrev pub RightPlaces : {A B : Type 0} → (A → Reply B) → List (Row A) → Type 0
+RightPlaces answer rows = map {B = ℕ × Carried} (λ r. (numberOf (answer (r .input)), carriedBy (answer (r .input)))) rows ≡ map (λ r. (r .number, r .carried)) rows
+
 -- every lookup has the answer that is due, with its count
 abbrev pub Answered : {A B : Type 0} → (A → B) → List (Sought A B) → Type 0
 Answered answer rows = map (λ r. answer (r .input)) rows ≡ map (λ r. r .due) rows
 
 pub record Orders : Type 0 where
-  pub directory : Right (λ s. numberOf (directoryAt pspKind 512 2 s 0)) directoryRows
-  pub limit : Right (λ s. numberOf (directoryAt pspKind 1 2 s 0)) limitRows
-  pub flash : Right (λ a. numberOf (flashDirectory (atTheStart (a .1)) (a .0) (a .1))) flashRows
+  pub directory : RightPlaces (λ s. directoryAt pspKind 512 2 s 0) directoryRows
+  pub limit : RightPlaces (λ s. directoryAt pspKind 1 2 s 0) limitRows
+  pub flash : RightPlaces (λ a. flashDirectory (atTheStart (a .1)) (a .0) (a .1)) flashRows
   pub find : Answered (λ a. flashFind (atTheStart (a .1)) (a .0) (a .1) (a .2) 0) findRows
   pub find-image : Answered (λ a. findImage (atTheStart (a .0)) (a .0) (a .1) (a .2)) findImageRows
-  pub part : Right (λ a. numberOf (partIn pspKind (length (twice (a .1))) (twice (a .1)) (directoryOf 0 1 1) (a .0))) partRows
-  pub place : Right (λ a. numberOf (checkAt (atTheStart (a .0)) (a .0) (a .1))) placeRows
-  pub start : Right (λ a. numberOf (startOf (a .0) (a .1))) startRows
-  pub extend : Right (λ a. numberOf (extendOf (a .0) (a .1))) extendRows
-  pub room : Right (λ a. numberOf (roomFor (a .0) (zeros (a .1)) (directoryOf 0 2 (a .2)))) roomRows
+  pub part : RightPlaces (λ a. partIn pspKind (length (twice (a .1))) (twice (a .1)) (directoryOf 0 1 1) (a .0)) partRows
+  pub place : RightPlaces (λ a. checkAt (atTheStart (a .0)) (a .0) (a .1)) placeRows
+  pub start : RightPlaces (λ a. startOf (a .0) (a .1)) startRows
+  pub extend : RightPlaces (λ a. extendOf (a .0) (a .1)) extendRows
+  pub room : RightPlaces (λ a. roomFor (a .0) (zeros (a .1)) (directoryOf 0 2 (a .2))) roomRows
   pub aspt-read : Right (λ s. numberOf (readOf s)) readRows
   pub aspt-write : Right (λ a. numberOf (writeOf (a .0) (replicate (a .1) 0))) writeRows
   pub guids : Right (λ s. numberOf (tableOf s)) guidRows

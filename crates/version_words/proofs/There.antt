@@ -2,7 +2,7 @@
 use mathlib.Core.Path.{_≡_, ap, _∙_}
 use mathlib.Core.List.{List}
 use Prim.Native.Nat.{ℕ}
-use Rattle.reply.specs.Reply.{Reply, Carried, given, refused, alone, then}
+use Rattle.reply.specs.Reply.{Reply, Carried, given, refused, then}
 use Rattle.entries.specs.Part.{bytesOf}
 use Rattle.entries.specs.declared.Part.{Part}
 use Rattle.version.specs.Version.{versionOf}
@@ -13,5 +13,5 @@ pub version-there : (s b : List ℕ) (q : Reply Part) (p : Part) → q ≡ given
 version-there s b q p g e = ap versionOf e ∙ rw g
 
 -- a part that is refused
-pub version-none : (s : List ℕ) (q : Reply Part) (number : ℕ) → q ≡ refused number alone → versionIn s q ≡ refused number alone
-version-none s q number g = rw g
+pub version-none : (s : List ℕ) (q : Reply Part) (number : ℕ) (carried : Carried) → q ≡ refused number carried → versionIn s q ≡ refused number carried
+version-none s q number carried g = rw g

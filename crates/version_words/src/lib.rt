@@ -17,7 +17,7 @@ pub fn entry(image: &[u8], level: u32, index: u64, words: &mut [u64]) -> u64
     let i = index as usize;
     match flash::part(image, level, i) {
         PartAnswer::Given(_) => binary_words::version(flash::bytes(image, level, i), words),
-        PartAnswer::Refused(why) => why.number as u64,
+        PartAnswer::Refused(why) => lent::put_fault(words, why),
     }
 }
 
@@ -29,6 +29,6 @@ pub fn view(image: &[u8], place: usize, i: usize, words: &mut [u64]) -> u64
     let at = Offset::nearest(place);
     match view::part_from(image, at, i) {
         PartAnswer::Given(_) => binary_words::version(view::bytes_from(image, at, i), words),
-        PartAnswer::Refused(why) => why.number as u64,
+        PartAnswer::Refused(why) => lent::put_fault(words, why),
     }
 }

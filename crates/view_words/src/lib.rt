@@ -21,7 +21,7 @@ pub fn view(image: &[u8], level: u32, words: &mut [u64]) -> u64
             let values = [place.0 as u64];
             lent::put(words, 0, &values)
         }
-        DirectoryAnswer::Refused(why) => why.number as u64,
+        DirectoryAnswer::Refused(why) => lent::put_fault(words, why),
     }
 }
 
@@ -41,7 +41,7 @@ pub fn entry(image: &[u8], place: usize, i: usize, words: &mut [u64]) -> u64
             ];
             lent::put(words, 0, &values)
         }
-        EntryAnswer::Refused(why) => why.number as u64,
+        EntryAnswer::Refused(why) => lent::put_fault(words, why),
     }
 }
 
@@ -56,6 +56,6 @@ pub fn part(image: &[u8], place: usize, i: usize, words: &mut [u64]) -> u64
             let values = [begin.0 as u64, p.length as u64];
             lent::put(words, 0, &values)
         }
-        PartAnswer::Refused(why) => why.number as u64,
+        PartAnswer::Refused(why) => lent::put_fault(words, why),
     }
 }

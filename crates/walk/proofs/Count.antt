@@ -63,21 +63,21 @@ record Whole (xs : List Step) : Type 0 where
   all : tests xs ≡ totals xs
   paid : Paid 0 xs
 
-module _ (below : Entry → List Step) (kind : Kind) (s : List ℕ) (d : Directory) (f : (e : Entry) → Whole (below e)) where
+module _ (below : (i : ℕ) → Entry → List Step) (kind : Kind) (s : List ℕ) (d : Directory) (f : (i : ℕ) (e : Entry) → Whole (below i e)) where
   entries-all : (m i : ℕ) → tests (entriesFrom below kind s d m i) ≡ m + totals (entriesFrom below kind s d m i)
   unfolding entriesFrom tests totals
   entries-all zero i = refl
   entries-all (suc m) i =
-      let b = below (entryOf kind s d i) in
+      let b = below i (entryOf kind s d i) in
       let r = entriesFrom below kind s d m (i + 1) in
-      omega (arith, tests-append b r, totals-append b r, f (entryOf kind s d i) .all, entries-all m (i + 1))
+      omega (arith, tests-append b r, totals-append b r, f i (entryOf kind s d i) .all, entries-all m (i + 1))
 
   entries-paid : (m i : ℕ) → Paid m (entriesFrom below kind s d m i)
   unfolding entriesFrom Paid
   entries-paid zero i = tt
   entries-paid (suc m) i =
-      let b = below (entryOf kind s d i) in
-      let g = f (entryOf kind s d i) in
+      let b = below i (entryOf kind s d i) in
+      let g = f i (entryOf kind s d i) in
       let z : suc m - 1 ≡ 0 + m = omega arith in
       (omega arith, rw z (paid-append (0 + m) m b (entriesFrom below kind s d m (i + 1)) (omega (arith, g .all)) (paid-more 0 m b (g .paid)) (entries-paid m (i + 1))))
 
@@ -86,10 +86,10 @@ module _ (below : Entry → List Step) (kind : Kind) (s : List ℕ) (d : Directo
   entered-whole = record { all = entries-all (d .total) 0; paid = let z : d .total ≡ 0 + d .total = omega arith in subst (λ (n : ℕ). Paid n (entriesFrom below kind s d (d .total) 0)) z (entries-paid (d .total) 0) }
 
 module _ (rules : Rules) (s : List ℕ) where
-  below-whole : (depth : ℕ) (d : Directory) (e : Entry) → Whole (belowOf depth rules s d e)
+  below-whole : (depth : ℕ) (d : Directory) (i : ℕ) (e : Entry) → Whole (belowOf depth rules s d i e)
   unfolding belowOf Paid tests totals
-  below-whole zero d e = record { all = refl; paid = tt }
-  below-whole (suc depth) d e = by (eqb (e .class) (rules .kind .lead)) (levelTwoAt rules s (d .place .0) e) (λ n. entered-whole (belowOf depth rules s n) (rules .kind) s n (below-whole depth n))
+  below-whole zero d i e = record { all = refl; paid = tt }
+  below-whole (suc depth) d i e = by (eqb (e .class) (rules .kind .lead)) (levelTwoAt rules s d i e) (λ n. entered-whole (belowOf depth rules s n) (rules .kind) s n (below-whole depth n))
     where
       by : (b : Bool) (r : Reply Directory) → ((n : Directory) → Whole (walkOf depth rules s n)) → Whole (cond b (walkedBy (walkOf depth rules s) r) [])
       by true (given n) g = g n

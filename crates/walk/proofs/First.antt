@@ -4,8 +4,11 @@ use mathlib.Core.List.{List, [], _∷_, _++_, append-assoc, append-nil}
 use mathlib.Core.Bool.{Bool, true, false}
 use Prim.Native.Nat.{ℕ, _+_}
 use native.Mathlib.Omega.{arith}
-use Rattle.reply.specs.Reply.{Reply, Carried, given, refused, alone, tested}
-use Rattle.reply.proofs.ReplyLaws.{one-by, apart}
+use Rattle.reply.specs.Reply.{Reply, Carried, given, refused, alone, tested, inHeader, inEntry, carriedOf}
+use Rattle.reply.specs.declared.Met.{Met}
+use Rattle.reply.specs.declared.Met.the-variants as place
+use Rattle.reply.specs.Back.{faultBy}
+use Rattle.reply.proofs.ReplyLaws.{one-by, apart, fault-back}
 use Rattle.entries.specs.Entry.{entryOf, matches}
 use Rattle.entries.specs.Good.{Matches}
 use Rattle.directory.specs.declared.Kind.{Kind}
@@ -77,14 +80,23 @@ first-match = record { answered = answered; match = at-match; stop = at-fault; a
 
 foundBack : Reply ImageMatch → ImageMatchAnswer
 foundBack (given f) = imageMatchAnswer.Given f
-foundBack (refused number alone) = imageMatchAnswer.Refused (record { number = number })
+foundBack (refused number alone) = imageMatchAnswer.Refused (faultBy number alone)
 foundBack (refused number (tested n)) = imageMatchAnswer.Absent n
+foundBack (refused number (inHeader level directory)) = imageMatchAnswer.Refused (faultBy number (inHeader level directory))
+foundBack (refused number (inEntry level index directory)) = imageMatchAnswer.Refused (faultBy number (inEntry level index directory))
+
+-- where a fault was met is never a count
+found-met : (number : ℕ) (m : Met) → foundBack (refused number (carriedOf m)) ≡ imageMatchAnswer.Refused (faultBy number (carriedOf m))
+unfolding foundBack
+found-met number place.Alone = refl
+found-met number (place.Header level directory) = refl
+found-met number (place.Entry level index directory) = refl
 
 found-back : (x : ImageMatchAnswer) → foundBack (toldImageMatch x) ≡ x
 unfolding foundBack
 found-back (imageMatchAnswer.Given f) = refl
 found-back (imageMatchAnswer.Absent n) = refl
-found-back (imageMatchAnswer.Refused why) = refl
+found-back (imageMatchAnswer.Refused why) = found-met (why .number) (why .met) ∙ ap (λ w. imageMatchAnswer.Refused w) (fault-back why)
 
 pub found-apart : FoundApart
 found-apart = one-by toldImageMatch foundBack found-back

@@ -1,4 +1,4 @@
-pub mod Alone
+pub mod Placed
 pub mod Steps
 pub mod First
 pub mod Count

@@ -7,8 +7,8 @@ use native.Mathlib.Nat.{pos-of-ne-zero}
 use native.Mathlib.Omega.{arith}
 use borrow.Author.Tests.{eqb-false}
 use lib.Dec.{eqb, eqb·suc-zero}
-use Rattle.reply.specs.Reply.{Reply, Carried, given, refused, alone, tested}
-use Rattle.reply.specs.declared.Refusal.{Refusal}
+use Rattle.reply.specs.Reply.{Reply, Carried, given, refused, tested, inEntry, met, carriedOf}
+use Rattle.reply.specs.declared.Fault.{Fault}
 use Rattle.reply.proofs.ReplyLaws.{clash, then-given}
 use Rattle.window.specs.declared.Offset.{Offset}
 use Rattle.directory.specs.Directory.{entryPlace, directoryAt}
@@ -22,20 +22,21 @@ use Rattle.directory.proofs.Accept.{acceptance}
 use Rattle.entries.proofs.Accept.{all-entry}
 use Rattle.flash.specs.Flash.{levelTwoAt}
 use Rattle.walk.specs.Walk.{Step, enter, test, fault, entriesFrom, walkedBy, belowOf, walkFrom, walkOf, firstIn}
+use Rattle.reply.specs.Back.{faultBy}
 use Rattle.walk.specs.Probe.{entered, probed, probedBy, probeOf, isPass}
 use Rattle.walk.specs.First.{tests, matchIn}
 use Rattle.walk.specs.declared.ImageMatch.{ImageMatch}
 use Rattle.walk.specs.declared.Search.{Search}
 use Rattle.walk.specs.declared.Probe.{Probe}
 use Rattle.walk.specs.declared.Probe.the-variants as probe
-use Rattle.walk.proofs.Alone.{level-alone}
+use Rattle.walk.proofs.Placed.{Place, place-of, no-count, level-placed}
 
--- each fault in some steps has a number alone
+-- each fault in some steps has a place, and no count
 pub Plain : List Step → Type 0
 Plain [] = Unit
 Plain (enter d ∷ steps) = Plain steps
 Plain (test d i ∷ steps) = Plain steps
-Plain (fault number carried ∷ steps) = (carried ≡ alone) × Plain steps
+Plain (fault number carried ∷ steps) = Place carried × Plain steps
 
 plain-append : (xs ys : List Step) → Plain xs → Plain ys → Plain (xs ++ ys)
 unfolding Plain
@@ -44,22 +45,22 @@ plain-append (enter d ∷ xs) ys p q = plain-append xs ys p q
 plain-append (test d i ∷ xs) ys p q = plain-append xs ys p q
 plain-append (fault number carried ∷ xs) ys p q = (p .0, plain-append xs ys (p .1) q)
 
-module _ (below : Entry → List Step) (kind : Kind) (s : List ℕ) (d : Directory) where
-  plain-entries : ((e : Entry) → Plain (below e)) → (m i : ℕ) → Plain (entriesFrom below kind s d m i)
+module _ (below : (i : ℕ) → Entry → List Step) (kind : Kind) (s : List ℕ) (d : Directory) where
+  plain-entries : ((i : ℕ) (e : Entry) → Plain (below i e)) → (m i : ℕ) → Plain (entriesFrom below kind s d m i)
   unfolding Plain entriesFrom
   plain-entries f zero i = tt
-  plain-entries f (suc m) i = plain-append (below (entryOf kind s d i)) (entriesFrom below kind s d m (i + 1)) (f (entryOf kind s d i)) (plain-entries f m (i + 1))
+  plain-entries f (suc m) i = plain-append (below i (entryOf kind s d i)) (entriesFrom below kind s d m (i + 1)) (f i (entryOf kind s d i)) (plain-entries f m (i + 1))
 
 module _ (rules : Rules) (s : List ℕ) where
-  plain-below : (depth : ℕ) (d : Directory) (e : Entry) → Plain (belowOf depth rules s d e)
+  plain-below : (depth : ℕ) (d : Directory) (i : ℕ) (e : Entry) → Plain (belowOf depth rules s d i e)
   unfolding Plain belowOf
-  plain-below zero d e = tt
-  plain-below (suc depth) d e = by (eqb (e .class) (rules .kind .lead)) (levelTwoAt rules s (d .place .0) e) refl (λ n. plain-entries (belowOf depth rules s n) (rules .kind) s n (plain-below depth n) (n .total) 0)
+  plain-below zero d i e = tt
+  plain-below (suc depth) d i e = by (eqb (e .class) (rules .kind .lead)) (levelTwoAt rules s d i e) refl (λ n. plain-entries (belowOf depth rules s n) (rules .kind) s n (plain-below depth n) (n .total) 0)
     where
-      by : (b : Bool) (r : Reply Directory) → levelTwoAt rules s (d .place .0) e ≡ r → ((n : Directory) → Plain (walkFrom depth rules s n (n .total) 0)) → Plain (cond b (walkedBy (walkOf depth rules s) r) [])
+      by : (b : Bool) (r : Reply Directory) → levelTwoAt rules s d i e ≡ r → ((n : Directory) → Plain (walkFrom depth rules s n (n .total) 0)) → Plain (cond b (walkedBy (walkOf depth rules s) r) [])
       by false r q f = tt
       by true (given n) q f = f n
-      by true (refused number carried) q f = (level-alone rules s (d .place .0) e number carried q, tt)
+      by true (refused number carried) q f = (level-placed rules s d i e number carried q, tt)
 
   pub plain-walk : (depth : ℕ) (d : Directory) → Plain (walkOf depth rules s d)
   unfolding Plain
@@ -79,17 +80,17 @@ module _ (kind : Kind) (s : List ℕ) (class sub : ℕ) where
       by false h e = h e
   first-given (fault number carried ∷ xs) ys t f e = clash e
 
-  pub first-refused : (xs ys : List Step) (t n : ℕ) → firstIn kind s class sub xs t ≡ refused n alone → firstIn kind s class sub (xs ++ ys) t ≡ refused n alone
+  pub first-refused : (xs ys : List Step) (t n : ℕ) (carried : Carried) → Place carried → firstIn kind s class sub xs t ≡ refused n carried → firstIn kind s class sub (xs ++ ys) t ≡ refused n carried
   unfolding firstIn
-  first-refused [] ys t n e = absurd (let z : _≡_ {A = ℕ} 0 1 = cc in let f : ⊥ = omega arith in f)
-  first-refused (enter d ∷ xs) ys t n e = first-refused xs ys t n e
-  first-refused (test d i ∷ xs) ys t n e = by (matches (entryOf kind s d i) class sub) (first-refused xs ys (t + 1) n) e
+  first-refused [] ys t n carried p e = absurd (no-count t carried p cc)
+  first-refused (enter d ∷ xs) ys t n carried p e = first-refused xs ys t n carried p e
+  first-refused (test d i ∷ xs) ys t n carried p e = by (matches (entryOf kind s d i) class sub) (first-refused xs ys (t + 1) n carried p) e
     where
-      by : (b : Bool) → (firstIn kind s class sub xs (t + 1) ≡ refused n alone → firstIn kind s class sub (xs ++ ys) (t + 1) ≡ refused n alone) →
-          cond b (given (matchIn d i (t + 1))) (firstIn kind s class sub xs (t + 1)) ≡ refused n alone → cond b (given (matchIn d i (t + 1))) (firstIn kind s class sub (xs ++ ys) (t + 1)) ≡ refused n alone
+      by : (b : Bool) → (firstIn kind s class sub xs (t + 1) ≡ refused n carried → firstIn kind s class sub (xs ++ ys) (t + 1) ≡ refused n carried) →
+          cond b (given (matchIn d i (t + 1))) (firstIn kind s class sub xs (t + 1)) ≡ refused n carried → cond b (given (matchIn d i (t + 1))) (firstIn kind s class sub (xs ++ ys) (t + 1)) ≡ refused n carried
       by true h e = clash (sym e)
       by false h e = h e
-  first-refused (fault number carried ∷ xs) ys t n e = e
+  first-refused (fault number here ∷ xs) ys t n carried p e = e
 
   pub first-absent : (xs ys : List Step) → Plain xs → (t n u : ℕ) → firstIn kind s class sub xs t ≡ refused n (tested u) → (firstIn kind s class sub (xs ++ ys) t ≡ firstIn kind s class sub ys u) × (u ≡ t + tests xs)
   unfolding firstIn tests Plain
@@ -102,7 +103,7 @@ module _ (kind : Kind) (s : List ℕ) (class sub : ℕ) where
           (cond b (given (matchIn d i (t + 1))) (firstIn kind s class sub (xs ++ ys) (t + 1)) ≡ firstIn kind s class sub ys u) × (u ≡ t + (1 + tests xs))
       by true h e = clash (sym e)
       by false h e = let g = h e in (g .0, omega (arith, g .1))
-  first-absent (fault number carried ∷ xs) ys p t n u e = let a = p .0 in absurd (let z : _≡_ {A = ℕ} 0 1 = cc in let f : ⊥ = omega arith in f)
+  first-absent (fault number carried ∷ xs) ys p t n u e = absurd (no-count u carried (p .0) cc)
 
 -- with no level left below, one test for each entry
 pub last-tests : (rules : Rules) (s : List ℕ) (d : Directory) (m i : ℕ) → tests (walkFrom 0 rules s d m i) ≡ m
@@ -120,42 +121,39 @@ abbrev pub seek : Rules → ℕ → ℕ → Search
 seek rules class sub = record { rules = rules; class = class; sub = sub }
 
 -- what a probe of entry i tells
-data Probed (depth : ℕ) (rules : Rules) (s : List ℕ) (d : Directory) (class sub : ℕ) (e : Entry) : Probe → Type 0 where
-  is-match : matches e class sub ≡ true → Probed depth rules s d class sub e probe.Match
-  is-pass : matches e class sub ≡ false → belowOf depth rules s d e ≡ [] → Probed depth rules s d class sub e probe.Pass
-  is-enter : {n : Directory} → matches e class sub ≡ false → 0 < depth → n .total ≤ (rules .limit) → belowOf depth rules s d e ≡ walkOf (depth - 1) rules s n → Probed depth rules s d class sub e (probe.Enter n)
-  is-fault : {why : Refusal} → matches e class sub ≡ false → belowOf depth rules s d e ≡ fault (why .number) alone ∷ [] → Probed depth rules s d class sub e (probe.Refused why)
+data Probed (depth : ℕ) (rules : Rules) (s : List ℕ) (d : Directory) (i class sub : ℕ) (e : Entry) : Probe → Type 0 where
+  is-match : matches e class sub ≡ true → Probed depth rules s d i class sub e probe.Match
+  is-pass : matches e class sub ≡ false → belowOf depth rules s d i e ≡ [] → Probed depth rules s d i class sub e probe.Pass
+  is-enter : {n : Directory} → matches e class sub ≡ false → 0 < depth → n .total ≤ (rules .limit) → belowOf depth rules s d i e ≡ walkOf (depth - 1) rules s n → Probed depth rules s d i class sub e (probe.Enter n)
+  is-fault : {why : Fault} → matches e class sub ≡ false → belowOf depth rules s d i e ≡ fault (why .number) (carriedOf (why .met)) ∷ [] → Probed depth rules s d i class sub e (probe.Refused why)
 
-probed-is : (depth : ℕ) (rules : Rules) (s : List ℕ) (d : Directory) (class sub : ℕ) (e : Entry) → Probed depth rules s d class sub e (probed depth (seek rules class sub) s d e)
+probed-is : (depth : ℕ) (rules : Rules) (s : List ℕ) (d : Directory) (i class sub : ℕ) (e : Entry) → Probed depth rules s d i class sub e (probed depth (seek rules class sub) s d i e)
 unfolding probed belowOf
-probed-is depth rules s d class sub e = by (matches e class sub) refl depth
+probed-is depth rules s d i class sub e = by (matches e class sub) refl depth
   where
-    few : (n : Directory) → levelTwoAt rules s (d .place .0) e ≡ given n → n .total ≤ (rules .limit)
+    few : (n : Directory) → levelTwoAt rules s d i e ≡ given n → n .total ≤ (rules .limit)
     few n q =
-        let t = then-given (leadsTo (rules .window) s (d .place .0) e) (λ (a : Offset). directoryAt (rules .kind) (rules .limit) 2 s (a .0)) q in
+        let t = then-given (met (inEntry (d .level) i (d .place .0)) (leadsTo (rules .window) s (d .place .0) e)) (λ (a : Offset). directoryAt (rules .kind) (rules .limit) 2 s (a .0)) q in
         acceptance .only (rules .kind) (rules .limit) 2 s (t .0 .0) n (t .2) .0 .few
 
-    down : (l : ℕ) (b : Bool) (r : Reply Directory) → eqb (e .class) (rules .kind .lead) ≡ b → levelTwoAt rules s (d .place .0) e ≡ r → matches e class sub ≡ false →
-        Probed (suc l) rules s d class sub e (cond b (entered r) probe.Pass)
+    down : (l : ℕ) (b : Bool) (r : Reply Directory) → eqb (e .class) (rules .kind .lead) ≡ b → levelTwoAt rules s d i e ≡ r → matches e class sub ≡ false →
+        Probed (suc l) rules s d i class sub e (cond b (entered r) probe.Pass)
     down l true (given n) q w m = let z : suc l - 1 ≡ l = omega arith in is-enter {n = n} m (omega arith) (few n w) (rw (q, w, z))
-    down l true (refused number carried) q w m = let a = level-alone rules s (d .place .0) e number carried w in is-fault {why = record { number = number }} m (rw (q, w, a))
+    down l true (refused number carried) q w m = let a = level-placed rules s d i e number carried w in is-fault {why = faultBy number carried} m (rw (q, w, a))
     down l false r q w m = is-pass m (rw q)
 
-    last : (b : Bool) → matches e class sub ≡ false → Probed 0 rules s d class sub e (cond b probe.Pass probe.Pass)
+    last : (b : Bool) → matches e class sub ≡ false → Probed 0 rules s d i class sub e (cond b probe.Pass probe.Pass)
     last true m = is-pass m refl
     last false m = is-pass m refl
 
     by : (b : Bool) → matches e class sub ≡ b → (l : ℕ) →
-        Probed l rules s d class sub e (cond b probe.Match (cond (eqb (e .class) (rules .kind .lead)) (cond (eqb l 0) probe.Pass (entered (levelTwoAt rules s (d .place .0) e))) probe.Pass))
+        Probed l rules s d i class sub e (cond b probe.Match (cond (eqb (e .class) (rules .kind .lead)) (cond (eqb l 0) probe.Pass (entered (levelTwoAt rules s d i e))) probe.Pass))
     by true m l = is-match m
     by false m zero = last (eqb (e .class) (rules .kind .lead)) m
-    by false m (suc l) = rw (eqb·suc-zero l) (down l (eqb (e .class) (rules .kind .lead)) (levelTwoAt rules s (d .place .0) e) refl refl m)
+    by false m (suc l) = rw (eqb·suc-zero l) (down l (eqb (e .class) (rules .kind .lead)) (levelTwoAt rules s d i e) refl refl m)
 
 -- the walk of the last `left` entries of a directory, by what the probe of the first of them says
 module _ (depth : ℕ) (rules : Rules) (s : List ℕ) (d : Directory) (class sub left t : ℕ) (some : 0 < left) (few : left ≤ d .total) where
-  index : ℕ
-  index = d .total - left
-
   here : Entry
   here = entryOf (rules .kind) s d (d .total - left)
 
@@ -163,24 +161,24 @@ module _ (depth : ℕ) (rules : Rules) (s : List ℕ) (d : Directory) (class sub
   rest = walkFrom depth rules s d (left - 1) (d .total - (left - 1))
 
   step : firstIn (rules .kind) s class sub (walkFrom depth rules s d left (d .total - left)) t
-      ≡ cond (matches here class sub) (given (matchIn d (d .total - left) (t + 1))) (firstIn (rules .kind) s class sub (belowOf depth rules s d here ++ rest) (t + 1))
+      ≡ cond (matches here class sub) (given (matchIn d (d .total - left) (t + 1))) (firstIn (rules .kind) s class sub (belowOf depth rules s d (d .total - left) here ++ rest) (t + 1))
   unfolding entriesFrom firstIn here rest
   step =
       let a : left ≡ suc (left - 1) = omega arith in
       let b : d .total - left + 1 ≡ d .total - (left - 1) = omega arith in
       ap (λ (m : ℕ). firstIn (rules .kind) s class sub (walkFrom depth rules s d m (d .total - left)) t) a
-      ∙ ap (λ (j : ℕ). cond (matches here class sub) (given (matchIn d (d .total - left) (t + 1))) (firstIn (rules .kind) s class sub (belowOf depth rules s d here ++ walkFrom depth rules s d (left - 1) j) (t + 1))) b
+      ∙ ap (λ (j : ℕ). cond (matches here class sub) (given (matchIn d (d .total - left) (t + 1))) (firstIn (rules .kind) s class sub (belowOf depth rules s d (d .total - left) here ++ walkFrom depth rules s d (left - 1) j) (t + 1))) b
 
-  told : (q : Probe) → q ≡ probeOf depth (seek rules class sub) s d (d .total - left) → Probed depth rules s d class sub here q
+  told : (q : Probe) → q ≡ probeOf depth (seek rules class sub) s d (d .total - left) → Probed depth rules s d (d .total - left) class sub here q
   unfolding here
   told q e =
       let r = all-entry (rules .kind) s d (d .total - left) (omega arith) in
-      subst (Probed depth rules s d class sub here) (sym (e ∙ ap (probedBy (probed depth (seek rules class sub) s d)) r)) (probed-is depth rules s d class sub here)
+      subst (Probed depth rules s d (d .total - left) class sub here) (sym (e ∙ ap (probedBy (probed depth (seek rules class sub) s d (d .total - left))) r)) (probed-is depth rules s d (d .total - left) class sub here)
 
   pub by-match : probe.Match ≡ probeOf depth (seek rules class sub) s d (d .total - left) → given (matchIn d (d .total - left) (t + 1)) ≡ firstIn (rules .kind) s class sub (walkFrom depth rules s d left (d .total - left)) t
   by-match e = by (told probe.Match e)
     where
-      by : Probed depth rules s d class sub here probe.Match → given (matchIn d (d .total - left) (t + 1)) ≡ firstIn (rules .kind) s class sub (walkFrom depth rules s d left (d .total - left)) t
+      by : Probed depth rules s d (d .total - left) class sub here probe.Match → given (matchIn d (d .total - left) (t + 1)) ≡ firstIn (rules .kind) s class sub (walkFrom depth rules s d left (d .total - left)) t
       by (is-match m) = sym (rw m at step)
 
   pub by-pass : probe.Pass ≡ probeOf depth (seek rules class sub) s d (d .total - left) →
@@ -188,37 +186,37 @@ module _ (depth : ℕ) (rules : Rules) (s : List ℕ) (d : Directory) (class sub
   unfolding rest
   by-pass e = by (told probe.Pass e)
     where
-      by : Probed depth rules s d class sub here probe.Pass →
+      by : Probed depth rules s d (d .total - left) class sub here probe.Pass →
           firstIn (rules .kind) s class sub (walkFrom depth rules s d (left - 1) (d .total - (left - 1))) (t + 1) ≡ firstIn (rules .kind) s class sub (walkFrom depth rules s d left (d .total - left)) t
       by (is-pass m b) = sym (rw (m, b) at step)
 
-  pub by-fault : (why : Refusal) → probe.Refused why ≡ probeOf depth (seek rules class sub) s d (d .total - left) →
-      refused (why .number) alone ≡ firstIn (rules .kind) s class sub (walkFrom depth rules s d left (d .total - left)) t
+  pub by-fault : (why : Fault) → probe.Refused why ≡ probeOf depth (seek rules class sub) s d (d .total - left) →
+      refused (why .number) (carriedOf (why .met)) ≡ firstIn (rules .kind) s class sub (walkFrom depth rules s d left (d .total - left)) t
   unfolding firstIn
   by-fault why e = by (told (probe.Refused why) e)
     where
-      by : Probed depth rules s d class sub here (probe.Refused why) → refused (why .number) alone ≡ firstIn (rules .kind) s class sub (walkFrom depth rules s d left (d .total - left)) t
+      by : Probed depth rules s d (d .total - left) class sub here (probe.Refused why) → refused (why .number) (carriedOf (why .met)) ≡ firstIn (rules .kind) s class sub (walkFrom depth rules s d left (d .total - left)) t
       by (is-fault m b) = sym (rw (m, b) at step)
 
   module _ (n : Directory) (e : probe.Enter n ≡ probeOf depth (seek rules class sub) s d (d .total - left)) where
     pub enter-facts : (0 < depth) × (n .total ≤ (rules .limit))
     enter-facts = by (told (probe.Enter n) e)
       where
-        by : Probed depth rules s d class sub here (probe.Enter n) → (0 < depth) × (n .total ≤ (rules .limit))
+        by : Probed depth rules s d (d .total - left) class sub here (probe.Enter n) → (0 < depth) × (n .total ≤ (rules .limit))
         by (is-enter m h f b) = (h, f)
 
     below : firstIn (rules .kind) s class sub (walkFrom depth rules s d left (d .total - left)) t ≡ firstIn (rules .kind) s class sub (walkOf (depth - 1) rules s n ++ rest) (t + 1)
     below = by (told (probe.Enter n) e)
       where
-        by : Probed depth rules s d class sub here (probe.Enter n) →
+        by : Probed depth rules s d (d .total - left) class sub here (probe.Enter n) →
             firstIn (rules .kind) s class sub (walkFrom depth rules s d left (d .total - left)) t ≡ firstIn (rules .kind) s class sub (walkOf (depth - 1) rules s n ++ rest) (t + 1)
         by (is-enter m h f b) = rw (m, b) at step
 
     pub enter-given : (f : ImageMatch) → given f ≡ firstIn (rules .kind) s class sub (walkOf (depth - 1) rules s n) (t + 1) → given f ≡ firstIn (rules .kind) s class sub (walkFrom depth rules s d left (d .total - left)) t
     enter-given f h = sym (below ∙ first-given (rules .kind) s class sub (walkOf (depth - 1) rules s n) rest (t + 1) f (sym h))
 
-    pub enter-refused : (w : ℕ) → refused w alone ≡ firstIn (rules .kind) s class sub (walkOf (depth - 1) rules s n) (t + 1) → refused w alone ≡ firstIn (rules .kind) s class sub (walkFrom depth rules s d left (d .total - left)) t
-    enter-refused w h = sym (below ∙ first-refused (rules .kind) s class sub (walkOf (depth - 1) rules s n) rest (t + 1) w (sym h))
+    pub enter-refused : (why : Fault) → refused (why .number) (carriedOf (why .met)) ≡ firstIn (rules .kind) s class sub (walkOf (depth - 1) rules s n) (t + 1) → refused (why .number) (carriedOf (why .met)) ≡ firstIn (rules .kind) s class sub (walkFrom depth rules s d left (d .total - left)) t
+    enter-refused why h = sym (below ∙ first-refused (rules .kind) s class sub (walkOf (depth - 1) rules s n) rest (t + 1) (why .number) (carriedOf (why .met)) (place-of (why .met)) (sym h))
 
     module _ (u : ℕ) (h : refused 8 (tested u) ≡ firstIn (rules .kind) s class sub (walkOf (depth - 1) rules s n) (t + 1)) where
       ended : (firstIn (rules .kind) s class sub (walkOf (depth - 1) rules s n ++ rest) (t + 1) ≡ firstIn (rules .kind) s class sub rest u) × (u ≡ t + 1 + tests (walkOf (depth - 1) rules s n))
@@ -253,8 +251,8 @@ pass-is : (depth : ℕ) (rules : Rules) (s : List ℕ) (d : Directory) (class su
     isPass (probeOf depth (seek rules class sub) s d i) ≡ cond (matches (entryOf (rules .kind) s d i) class sub) false (cond (eqb (entryOf (rules .kind) s d i .class) (rules .kind .lead)) (eqb depth 0) true)
 unfolding probed
 pass-is depth rules s d class sub i h =
-    ap (λ (r : Reply Entry). isPass (probedBy (probed depth (seek rules class sub) s d) r)) (all-entry (rules .kind) s d i h)
-    ∙ pass-cases (matches (entryOf (rules .kind) s d i) class sub) (eqb (entryOf (rules .kind) s d i .class) (rules .kind .lead)) (eqb depth 0) (levelTwoAt rules s (d .place .0) (entryOf (rules .kind) s d i))
+    ap (λ (r : Reply Entry). isPass (probedBy (probed depth (seek rules class sub) s d i) r)) (all-entry (rules .kind) s d i h)
+    ∙ pass-cases (matches (entryOf (rules .kind) s d i) class sub) (eqb (entryOf (rules .kind) s d i .class) (rules .kind .lead)) (eqb depth 0) (levelTwoAt rules s d i (entryOf (rules .kind) s d i))
 
 -- the same of the first of the last entries, by the place and the total that the directory told
 pub pass-left : (depth : ℕ) (rules : Rules) (s : List ℕ) (d : Directory) (class sub left : ℕ) (at : Offset) (n : ℕ) → at ≡ d .place → n ≡ d .total → 0 < left → left ≤ d .total →

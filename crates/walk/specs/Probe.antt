@@ -5,6 +5,7 @@ use mathlib.Core.Bool.{Bool, true, false, cond}
 use lib.ListN.{length}
 use lib.Dec.{eqb}
 use Rattle.reply.specs.Reply.{Reply, given, refused}
+use Rattle.reply.specs.Back.{faultBy}
 use Rattle.entries.specs.Entry.{entryIn, matches}
 use Rattle.directory.specs.declared.Directory.{Directory}
 use Rattle.entries.specs.declared.Entry.{Entry}
@@ -17,22 +18,22 @@ use Rattle.walk.specs.declared.Probe.the-variants as probe
 -- what an entry leads to, once checked
 abbrev pub entered : Reply Directory → Probe
 entered (given n) = probe.Enter n
-entered (refused number carried) = probe.Refused (record { number = number })
+entered (refused number carried) = probe.Refused (faultBy number carried)
 
 -- an entry that was read, tested: a match, a directory to enter if levels are left, or to be passed over
-unfoldable pub probed : (depth : ℕ) → Search → (image : List ℕ) → Directory → Entry → Probe
-probed depth by image d e =
+unfoldable pub probed : (depth : ℕ) → Search → (image : List ℕ) → Directory → (i : ℕ) → Entry → Probe
+probed depth by image d i e =
     cond (matches e (by .class) (by .sub)) probe.Match
-    (cond (eqb (e .class) (by .rules .kind .lead)) (cond (eqb depth 0) probe.Pass (entered (levelTwoAt (by .rules) image (d .place .0) e))) probe.Pass)
+    (cond (eqb (e .class) (by .rules .kind .lead)) (cond (eqb depth 0) probe.Pass (entered (levelTwoAt (by .rules) image d i e))) probe.Pass)
 
 -- the same of an entry to be read
 abbrev pub probedBy : (test : Entry → Probe) → Reply Entry → Probe
 probedBy test (given e) = test e
-probedBy test (refused number carried) = probe.Refused (record { number = number })
+probedBy test (refused number carried) = probe.Refused (faultBy number carried)
 
 -- entry i of a directory
 abbrev pub probeOf : (depth : ℕ) → Search → (image : List ℕ) → Directory → (i : ℕ) → Probe
-probeOf depth by image d i = probedBy (probed depth by image d) (entryIn (by .rules .kind) image d i)
+probeOf depth by image d i = probedBy (probed depth by image d i) (entryIn (by .rules .kind) image d i)
 
 -- an entry that is passed by
 abbrev pub isPass : Probe → Bool

@@ -3,7 +3,7 @@ use Prim.Native.Nat.{ℕ, zero, suc, _+_}
 use mathlib.Core.List.{List, [], _∷_, _++_}
 use mathlib.Core.Bool.{cond}
 use lib.Dec.{eqb}
-use Rattle.reply.specs.Reply.{Reply, Carried, given, refused, alone, tested, then}
+use Rattle.reply.specs.Reply.{Reply, Carried, given, refused, tested, carriedOf, then}
 use Rattle.entries.specs.Entry.{entryOf, matches}
 use Rattle.directory.specs.declared.Kind.{Kind}
 use Rattle.directory.specs.declared.Directory.{Directory}
@@ -21,21 +21,21 @@ pub data Step : Type 0 where
   fault : (number : ℕ) → Carried → Step
 
 -- the m entries from index i on of a directory: each is tested first, then what it leads to is walked before the next
-unfoldable pub entriesFrom : (below : Entry → List Step) → Kind → (image : List ℕ) → Directory → (m i : ℕ) → List Step
+unfoldable pub entriesFrom : (below : (i : ℕ) → Entry → List Step) → Kind → (image : List ℕ) → Directory → (m i : ℕ) → List Step
 entriesFrom below kind image d zero i = []
-entriesFrom below kind image d (suc m) i = test d i ∷ (below (entryOf kind image d i) ++ entriesFrom below kind image d m (i + 1))
+entriesFrom below kind image d (suc m) i = test d i ∷ (below i (entryOf kind image d i) ++ entriesFrom below kind image d m (i + 1))
 
 -- a directory that was checked is walked; one that was refused is a fault
 abbrev pub walkedBy : (walk : Directory → List Step) → Reply Directory → List Step
 walkedBy walk (given d) = walk d
 walkedBy walk (refused number carried) = fault number carried ∷ []
 
--- what entry e of a directory leads to, with so many levels left below: a 0x40 entry to the level-two directory at its location, any other to nothing
-unfoldable pub belowOf : (depth : ℕ) → Rules → (image : List ℕ) → Directory → Entry → List Step
-belowOf zero r image d e = []
-belowOf (suc depth) r image d e =
+-- what e, entry i of a directory, leads to, with so many levels left below: a 0x40 entry to the level-two directory at its location, any other to nothing
+unfoldable pub belowOf : (depth : ℕ) → Rules → (image : List ℕ) → Directory → (i : ℕ) → Entry → List Step
+belowOf zero r image d i e = []
+belowOf (suc depth) r image d i e =
     cond (eqb (e .class) (r .kind .lead))
-    (walkedBy (λ n. enter n ∷ entriesFrom (belowOf depth r image n) (r .kind) image n (n .total) 0) (levelTwoAt r image (d .place .0) e))
+    (walkedBy (λ n. enter n ∷ entriesFrom (belowOf depth r image n) (r .kind) image n (n .total) 0) (levelTwoAt r image d i e))
     []
 
 -- the walk of the m entries from index i on of a directory, with so many levels left below
@@ -64,4 +64,4 @@ findImage r image class sub = then (fromLookup (flashDirectory r 1 image)) (λ d
 abbrev pub toldImageMatch : ImageMatchAnswer → Reply ImageMatch
 toldImageMatch (imageMatchAnswer.Given f) = given f
 toldImageMatch (imageMatchAnswer.Absent n) = refused 8 (tested n)
-toldImageMatch (imageMatchAnswer.Refused why) = refused (why .number) alone
+toldImageMatch (imageMatchAnswer.Refused why) = refused (why .number) (carriedOf (why .met))

@@ -2,7 +2,7 @@
 ghost use mathlib.Core.Path.{_≡_};
 ghost use Prim.Native.Nat.{_+_, _-_, _<_, _≤_};
 ghost use lib.ListN.{length};
-ghost use Rattle.reply.specs.Reply.{refused, alone};
+ghost use Rattle.reply.specs.Reply.{refused, carriedOf};
 ghost use Rattle.window.specs.Length.{longest};
 ghost use Rattle.efs.specs.Rules.{rulesOf};
 ghost use Rattle.flash.specs.Flash.{levelTwoAt, fromLookup};
@@ -14,7 +14,7 @@ use directory::DirectoryAnswer;
 use efs::Rules;
 use entries::Entry;
 use entries::EntryAnswer;
-use reply::Refusal;
+use reply::Fault;
 use window::Offset;
 
 // A match in a whole image: its directory's place and level, its index, and the number of entries tested.
@@ -29,7 +29,7 @@ pub struct ImageMatch {
 pub enum ImageMatchAnswer {
     Given(ImageMatch),
     Absent(u32),
-    Refused(Refusal),
+    Refused(Fault),
 }
 
 // What the test of an entry comes to: a match, nothing, a directory to be walked before the next entry, or a fault.
@@ -37,7 +37,7 @@ enum Probe {
     Match,
     Pass,
     Enter(Directory),
-    Refused(Refusal),
+    Refused(Fault),
 }
 
 // What a walk goes by: the rules of the image, and the type and subprogram looked for.
@@ -47,21 +47,21 @@ struct Search {
     sub: u8,
 }
 
-// What an entry that does not match leads to.
-fn enter(image: &[u8], by: Search, d: Directory, e: Entry) -> Probe
+// What e, entry i of a directory, leads to where it does not match.
+fn enter(image: &[u8], by: Search, d: Directory, i: u32, e: Entry) -> Probe
     requires { ⌜ (1 ≤ length (now image)) × (length (now image) ≤ longest) ⌝ }
-    ensures { λ r. ⌜ r ≡ entered (levelTwoAt (by .rules) (now (image .entry)) (d .place .0) e) ⌝ }
+    ensures { λ r. ⌜ r ≡ entered (levelTwoAt (by .rules) (now (image .entry)) d i e) ⌝ }
 {
-    match flash::level_two_at(image, by.rules, d.place(), e) {
+    match flash::level_two_at(image, by.rules, d, i, e) {
         DirectoryAnswer::Given(n) => Probe::Enter(n),
         DirectoryAnswer::Refused(why) => Probe::Refused(why),
     }
 }
 
-// An entry, tested.
-fn tested_entry(image: &[u8], by: Search, d: Directory, depth: u32, e: Entry) -> Probe
+// Entry i, tested.
+fn tested_entry(image: &[u8], by: Search, d: Directory, depth: u32, i: u32, e: Entry) -> Probe
     requires { ⌜ (1 ≤ length (now image)) × (length (now image) ≤ longest) ⌝ }
-    ensures { λ r. ⌜ r ≡ probed depth by (now (image .entry)) d e ⌝ }
+    ensures { λ r. ⌜ r ≡ probed depth by (now (image .entry)) d i e ⌝ }
 {
     if entries::matches(e, by.class, by.sub) {
         return Probe::Match;
@@ -73,7 +73,7 @@ fn tested_entry(image: &[u8], by: Search, d: Directory, depth: u32, e: Entry) ->
     if depth == 0 {
         return Probe::Pass;
     }
-    enter(image, by, d, e)
+    enter(image, by, d, i, e)
 }
 
 // The first of the last entries of a directory, tested.
@@ -84,7 +84,7 @@ fn probe_entry(image: &[u8], by: Search, d: Directory, depth: u32, left: u32) ->
 {
     let i = d.total() - left;
     match entries::entry_in(image, by.rules.kind, d, i as usize) {
-        EntryAnswer::Given(e) => tested_entry(image, by, d, depth, e),
+        EntryAnswer::Given(e) => tested_entry(image, by, d, depth, i, e),
         EntryAnswer::Refused(why) => Probe::Refused(why),
     }
 }
@@ -180,8 +180,8 @@ fn walk_entry(
 }
 
 // The answer where there is no directory to look in.
-fn no_walk(why: Refusal) -> ImageMatchAnswer
-    ensures { λ r. ⌜ toldImageMatch r ≡ fromLookup (refused (why .number) alone) ⌝ }
+fn no_walk(why: Fault) -> ImageMatchAnswer
+    ensures { λ r. ⌜ toldImageMatch r ≡ fromLookup (refused (why .number) (carriedOf (why .met))) ⌝ }
 {
     if why.number == 8 {
         return ImageMatchAnswer::Absent(0);

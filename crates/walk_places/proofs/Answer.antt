@@ -119,7 +119,7 @@ module _ (r : Rules) (s : List ℕ) (d : Directory) (class sub : ℕ) where
           let y = m .is-in .1 in
           omega arith
   entered i n rest e next (suc m) j t q c w =
-      tested-entry n (below i j) t _ w (e, omega arith) (level-two r s (d .place .0) (entryOf (r .kind) s d i) n (e .directory)) (omega arith)
+      tested-entry n (below i j) t _ w (e, omega arith) (level-two r s d i n (e .directory)) (omega arith)
       (λ f. entered i n rest e next m (j + 1) (t + 1) (omega arith) (omega arith) (past-below r s d class sub i j n e w f))
 
   -- the last m entries of level one
@@ -133,7 +133,7 @@ module _ (r : Rules) (s : List ℕ) (d : Directory) (class sub : ℕ) where
     where
       led : Reached r s d class sub (below i 0) → (b : Bool) → eqb (entryOf (r .kind) s d i .class) (r .kind .lead) ≡ b → (x : Reply Directory) → ledTo r s d i ≡ x →
           ((t : ℕ) → i + 1 + m ≡ d .total → t ≡ i + 1 + totalsBelow r s d (i + 1) → Reached r s d class sub (top (i + 1)) → Answered r s d class sub (firstIn (r .kind) s class sub (walkFrom 1 r s d m (i + 1)) t)) →
-          Answered r s d class sub (firstIn (r .kind) s class sub (belowOf 1 r s d (entryOf (r .kind) s d i) ++ walkFrom 1 r s d m (i + 1)) (t + 1))
+          Answered r s d class sub (firstIn (r .kind) s class sub (belowOf 1 r s d i (entryOf (r .kind) s d i) ++ walkFrom 1 r s d m (i + 1)) (t + 1))
       led v true b (given n) x next =
           let e : Enters r s d i n = record { inside = omega arith; lead = eqb-true _ _ b; directory = x } in
           let k : totalBelow r s d i ≡ n .total = rw (b, x) in

@@ -22,7 +22,6 @@ use Rattle.entries.specs.Entry.{entryOf}
 use Rattle.entries.specs.Good.{Leads, Matches}
 use Rattle.entries.proofs.Accept.{all-entry}
 use Rattle.entries.proofs.Independent.{entries-independence}
-use Rattle.entries.proofs.PartAccept.{two-bits}
 use Rattle.window.specs.Length.{longest}
 use Rattle.efs.specs.Efs.{efsPlace, efsAt, efsIn, pointerTo, pointerOf, pointerIn}
 use Rattle.efs.specs.declared.Efs.{Efs}
@@ -138,9 +137,9 @@ module _ (r : Rules) (s t : List ℕ) (class sub : ℕ) (fits : r .window ≤ fo
     -- what a lead that the walk comes to leads to
     led-same : (i : ℕ) → i < d .total → Leads (r .kind) s d i → Reached r s d class sub (below i 0) → ledTo r s d i ≡ ledTo r t d i
     led-same i h l w =
-        two-same r fits s t (way .long) (d .place .0) (entryOf (r .kind) s d i) (two-bits s _)
+        two-same r fits s t (way .long) d i
         (λ o b k. independence .directory (r .kind) (r .limit) 2 s t o wide (way .two d opens i h l w o b k))
-        ∙ ap (levelTwoAt r t (d .place .0)) (entry-same i h)
+        ∙ ap (levelTwoAt r t d i) (entry-same i h)
 
     agree-two : (i : ℕ) (n : Directory) → Enters r s d i n → Reached r s d class sub (below i 0) → Agree s t (n .place .0) (endOf (r .kind) n)
     agree-two i n e w =

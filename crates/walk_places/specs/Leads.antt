@@ -3,25 +3,26 @@ use Prim.Native.Nat.{ℕ, _<_, _≤_}
 use mathlib.Core.Path.{_≡_}
 use mathlib.Core.List.{List}
 use lib.ListN.{length}
-use Rattle.reply.specs.Reply.{Carried, given, refused, alone}
+use Rattle.reply.specs.Reply.{Carried, given, refused, inEntry}
 use Rattle.window.specs.Window.{fourGiB}
 use Rattle.directory.specs.declared.Directory.{Directory}
 use Rattle.directory.specs.Directory.{directoryAt}
 use Rattle.directory.specs.Good.{GoodDirectory}
-use Rattle.entries.specs.declared.Entry.{Entry}
 use Rattle.entries.specs.Entry.{entryOf}
 use Rattle.entries.specs.Good.{BeginsAt}
 use Rattle.efs.specs.declared.Rules.{Rules}
 use Rattle.walk_places.specs.Places.{ledTo}
 
--- why what entry e of a directory at o leads to is refused, and with which number
-pub data WhyFault (r : Rules) (image : List ℕ) (o : ℕ) (e : Entry) (number : ℕ) : Type 0 where
-  -- mode 3: 16
-  no-mode : e .mode ≡ 3 → number ≡ 16 → WhyFault r image o e number
-  -- it begins nowhere, or beyond the image: 7
-  outside : (e .mode ≡ 3 → ⊥) → ((place : ℕ) → BeginsAt (r .window) o e place → length image < place) → number ≡ 7 → WhyFault r image o e number
-  -- it begins within the image, where no directory of level two is good: the number of its checks
-  bad-directory : (place : ℕ) → BeginsAt (r .window) o e place → place ≤ length image → directoryAt (r .kind) (r .limit) 2 image place ≡ refused number alone → WhyFault r image o e number
+-- why what entry i of a directory leads to is refused, with which number, and what that carries
+pub data WhyFault (r : Rules) (image : List ℕ) (d : Directory) (i number : ℕ) (carried : Carried) : Type 0 where
+  -- mode 3: 16, in the entry
+  no-mode : entryOf (r .kind) image d i .mode ≡ 3 → number ≡ 16 → carried ≡ inEntry (d .level) i (d .place .0) → WhyFault r image d i number carried
+  -- it begins nowhere, or beyond the image: 7, in the entry
+  outside : (entryOf (r .kind) image d i .mode ≡ 3 → ⊥) → ((place : ℕ) → BeginsAt (r .window) (d .place .0) (entryOf (r .kind) image d i) place → length image < place) → number ≡ 7 →
+      carried ≡ inEntry (d .level) i (d .place .0) → WhyFault r image d i number carried
+  -- it begins within the image, where no directory of level two is good: the number of its checks, and where they met it
+  bad-directory : (place : ℕ) → BeginsAt (r .window) (d .place .0) (entryOf (r .kind) image d i) place → place ≤ length image →
+      directoryAt (r .kind) (r .limit) 2 image place ≡ refused number carried → WhyFault r image d i number carried
 
 -- by rules with a window that fits below 4 GiB
 pub record LeadTold (r : Rules) (image : List ℕ) (d : Directory) (i : ℕ) : Type 0 where
@@ -30,9 +31,9 @@ pub record LeadTold (r : Rules) (image : List ℕ) (d : Directory) (i : ℕ) : T
       BeginsAt (r .window) (d .place .0) (entryOf (r .kind) image d i) (n .place .0) × GoodDirectory (r .kind) (r .limit) image n × (n .level ≡ 2)
   pub given-all : (n : Directory) → BeginsAt (r .window) (d .place .0) (entryOf (r .kind) image d i) (n .place .0) → GoodDirectory (r .kind) (r .limit) image n → n .level ≡ 2 →
       ledTo r image d i ≡ given n
-  -- it is refused exactly for a reason, with that number alone
-  pub refused-only : (number : ℕ) (carried : Carried) → ledTo r image d i ≡ refused number carried → WhyFault r image (d .place .0) (entryOf (r .kind) image d i) number × (carried ≡ alone)
-  pub refused-all : (number : ℕ) → WhyFault r image (d .place .0) (entryOf (r .kind) image d i) number → ledTo r image d i ≡ refused number alone
+  -- it is refused exactly for a reason, with that number and what it carries
+  pub refused-only : (number : ℕ) (carried : Carried) → ledTo r image d i ≡ refused number carried → WhyFault r image d i number carried
+  pub refused-all : (number : ℕ) (carried : Carried) → WhyFault r image d i number carried → ledTo r image d i ≡ refused number carried
 
 abbrev pub LeadsTold : Type 0
 LeadsTold = (r : Rules) (image : List ℕ) (d : Directory) (i : ℕ) → r .window ≤ fourGiB → LeadTold r image d i

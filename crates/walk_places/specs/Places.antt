@@ -42,7 +42,7 @@ levelAt (below i j) = 2
 -- ---- what holds at a spot of an image whose level one is d
 -- what entry i of level one leads to, once checked
 abbrev pub ledTo : Rules → (image : List ℕ) → (d : Directory) → (i : ℕ) → Reply Directory
-ledTo r image d i = levelTwoAt r image (d .place .0) (entryOf (r .kind) image d i)
+ledTo r image d i = levelTwoAt r image d i (entryOf (r .kind) image d i)
 
 -- entry i of level one is a lead, and it leads to the good directory n of level two
 pub record Enters (r : Rules) (image : List ℕ) (d : Directory) (i : ℕ) (n : Directory) : Type 0 where

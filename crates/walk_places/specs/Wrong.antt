@@ -19,14 +19,14 @@ abbrev pub findBy : (Rules → (image : List ℕ) → Directory → List Step) �
 findBy walk r image class sub = then (fromLookup (flashDirectory r 1 image)) (λ d. firstIn (r .kind) image class sub (walk r image d) 0)
 
 -- each directory from its last entry to its first
-unfoldable pub entriesBack : (below : Entry → List Step) → Kind → (image : List ℕ) → Directory → (m : ℕ) → List Step
+unfoldable pub entriesBack : (below : (i : ℕ) → Entry → List Step) → Kind → (image : List ℕ) → Directory → (m : ℕ) → List Step
 entriesBack below kind image d zero = []
-entriesBack below kind image d (suc m) = test d m ∷ (below (entryOf kind image d m) ++ entriesBack below kind image d m)
+entriesBack below kind image d (suc m) = test d m ∷ (below m (entryOf kind image d m) ++ entriesBack below kind image d m)
 
-unfoldable pub belowBack : (depth : ℕ) → Rules → (image : List ℕ) → Directory → Entry → List Step
-belowBack zero r image d e = []
-belowBack (suc depth) r image d e =
-    cond (eqb (e .class) (r .kind .lead)) (walkedBy (λ n. entriesBack (belowBack depth r image n) (r .kind) image n (n .total)) (levelTwoAt r image (d .place .0) e)) []
+unfoldable pub belowBack : (depth : ℕ) → Rules → (image : List ℕ) → Directory → (i : ℕ) → Entry → List Step
+belowBack zero r image d i e = []
+belowBack (suc depth) r image d i e =
+    cond (eqb (e .class) (r .kind .lead)) (walkedBy (λ n. entriesBack (belowBack depth r image n) (r .kind) image n (n .total)) (levelTwoAt r image d i e)) []
 
 abbrev pub backwards : Find
 backwards = findBy (λ r image d. entriesBack (belowBack 1 r image d) (r .kind) image d (d .total))
@@ -46,17 +46,17 @@ abbrev pub passesFaults : Find
 passesFaults = findBy (λ r image d. faultless (walkOf 1 r image d))
 
 -- all of level one, and what it leads to behind that
-unfoldable pub belowAll : (below : Entry → List Step) → Kind → (image : List ℕ) → Directory → (m i : ℕ) → List Step
+unfoldable pub belowAll : (below : (i : ℕ) → Entry → List Step) → Kind → (image : List ℕ) → Directory → (m i : ℕ) → List Step
 belowAll below kind image d zero i = []
-belowAll below kind image d (suc m) i = below (entryOf kind image d i) ++ belowAll below kind image d m (i + 1)
+belowAll below kind image d (suc m) i = below i (entryOf kind image d i) ++ belowAll below kind image d m (i + 1)
 
 abbrev pub levelOneFirst : Find
 levelOneFirst = findBy (λ r image d. walkOf 0 r image d ++ belowAll (belowOf 1 r image d) (r .kind) image d (d .total) 0)
 
 -- what an entry leads to before the entry
-unfoldable pub entriesLate : (below : Entry → List Step) → Kind → (image : List ℕ) → Directory → (m i : ℕ) → List Step
+unfoldable pub entriesLate : (below : (i : ℕ) → Entry → List Step) → Kind → (image : List ℕ) → Directory → (m i : ℕ) → List Step
 entriesLate below kind image d zero i = []
-entriesLate below kind image d (suc m) i = below (entryOf kind image d i) ++ (test d i ∷ entriesLate below kind image d m (i + 1))
+entriesLate below kind image d (suc m) i = below i (entryOf kind image d i) ++ (test d i ∷ entriesLate below kind image d m (i + 1))
 
 abbrev pub entersFirst : Find
 entersFirst = findBy (λ r image d. entriesLate (belowOf 1 r image d) (r .kind) image d (d .total) 0)

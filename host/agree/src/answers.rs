@@ -4,22 +4,118 @@ use crate::compare::BAD_LINE;
 use std::collections::BTreeMap;
 use std::fmt;
 
-/// A call: its name, the first word of its answer where it is accepted, and the numbers with which it may be refused.
-pub struct Call {
-    pub name: &'static str,
-    pub given: &'static [&'static str],
-    pub refusals: &'static [u8],
+/// What a refusal carries behind its number.
+#[derive(Clone, Copy, Debug, PartialEq, Eq, PartialOrd, Ord)]
+pub enum Carried {
+    Nothing,
+    /// How many entries a lookup tested.
+    Tested,
+    /// A directory's level, of a refusal that was met in its header; 0 where no cookie told it.
+    Header(u8),
+    /// A directory's level and an index, of a refusal that was met in that entry.
+    Entry(u8),
 }
 
-const fn call(name: &'static str, given: &'static [&'static str], refusals: &'static [u8]) -> Call {
-    Call {
-        name,
-        given,
-        refusals,
+use Carried::{Entry, Header, Nothing, Tested};
+
+impl Carried {
+    /// Reads what stands behind a refusal's number.
+    fn of(words: &[&str]) -> Option<Carried> {
+        let number = |word: &str, name: &str| -> Option<u64> {
+            let digits = word.strip_prefix(name)?;
+            let is_number = digits.bytes().all(|byte| byte.is_ascii_digit());
+            digits.parse().ok().filter(|_| is_number)
+        };
+        let level = |word| number(word, "level=").and_then(|level| u8::try_from(level).ok());
+        match words {
+            [] => Some(Nothing),
+            [word] if word.starts_with("tested=") => number(word, "tested=").map(|_| Tested),
+            [word] => level(word).map(Header),
+            [first, second] => number(second, "index=").and(level(first)).map(Entry),
+            _ => None,
+        }
     }
 }
 
-/// Every call, in the order of docs/ASK.md, with the numbers that document 01 and requests 02 and 07 have for it.
+impl fmt::Display for Carried {
+    fn fmt(&self, to: &mut fmt::Formatter<'_>) -> fmt::Result {
+        match self {
+            Nothing => Ok(()),
+            Tested => write!(to, " tested"),
+            Header(level) => write!(to, " level={level}"),
+            Entry(level) => write!(to, " level={level} index"),
+        }
+    }
+}
+
+/// Numbers of refusals, with what they carry.
+type Refusals = &'static [(Carried, &'static [u8])];
+
+/// A call: its name, the first word of its answer where it is accepted, and the refusals that it may give: those of its own, and those
+/// that it passes on from a directory.
+pub struct Call {
+    pub name: &'static str,
+    pub given: &'static [&'static str],
+    refusals: [Refusals; 2],
+}
+
+const fn call(name: &'static str, given: &'static [&'static str], own: Refusals) -> Call {
+    on_directory(name, given, own, &[])
+}
+
+const fn on_directory(
+    name: &'static str,
+    given: &'static [&'static str],
+    own: Refusals,
+    passed_on: Refusals,
+) -> Call {
+    Call {
+        name,
+        given,
+        refusals: [own, passed_on],
+    }
+}
+
+impl Call {
+    /// Every refusal that the call may give.
+    fn refusals(&self) -> impl Iterator<Item = (u8, Carried)> {
+        let lists = self.refusals.into_iter().flatten();
+        lists.flat_map(|(carried, numbers)| numbers.iter().map(move |number| (*number, *carried)))
+    }
+}
+
+/// The refusals of directories that the EFS leads to: the six checks of a header; the checks of an entry, and in level one the 7 and 16 of
+/// the entry that leads to level two.
+#[rustfmt::skip]
+const BY_LEVEL: Refusals = &[
+    (Header(1), &[1, 2, 3, 4, 5]), (Entry(1), &[5, 7, 16, 18]),
+    (Header(2), &[1, 2, 3, 4, 5]), (Entry(2), &[5, 14, 18]),
+];
+
+/// The same where an entry's bytes are asked for: its own 7, 16 and 17 as well.
+#[rustfmt::skip]
+const BYTES_BY_LEVEL: Refusals = &[
+    (Header(1), &[1, 2, 3, 4, 5]), (Entry(1), &[5, 7, 16, 17, 18]),
+    (Header(2), &[1, 2, 3, 4, 5]), (Entry(2), &[5, 7, 14, 16, 17, 18]),
+];
+
+/// The refusals of a directory whose level its cookie tells.
+#[rustfmt::skip]
+const BY_COOKIE: Refusals = &[
+    (Header(0), &[1, 2]),
+    (Header(1), &[1, 3, 4, 5]), (Entry(1), &[5, 18]),
+    (Header(2), &[1, 3, 4, 5]), (Entry(2), &[5, 14, 18]),
+];
+
+/// The same where an entry's bytes are asked for.
+#[rustfmt::skip]
+const BYTES_BY_COOKIE: Refusals = &[
+    (Header(0), &[1, 2]),
+    (Header(1), &[1, 3, 4, 5]), (Entry(1), &[5, 7, 16, 17, 18]),
+    (Header(2), &[1, 3, 4, 5]), (Entry(2), &[5, 7, 14, 16, 17, 18]),
+];
+
+/// Every call, in the order of docs/ASK.md, with the numbers that document 01 and requests 02, 05 and 07 have for it.
 #[rustfmt::skip]
 pub const CALLS: &[Call] = &[
     call("buffer", &["ok"], &[]),
@@ -28,29 +124,29 @@ pub const CALLS: &[Call] = &[
     call("patch", &["ok"], &[]),
     call("show", &["bytes"], &[]),
     call("digest", &["digest"], &[]),
-    call("directory", &["ok"], &[1, 2, 3, 4, 5, 7, 8, 9, 14, 15, 16, 18]),
-    call("entry", &["ok"], &[1, 2, 3, 4, 5, 7, 8, 9, 14, 15, 16, 18]),
-    call("bytes", &["ok"], &[1, 2, 3, 4, 5, 7, 8, 9, 14, 15, 16, 17, 18]),
-    call("find", &["ok"], &[1, 2, 3, 4, 5, 7, 8, 9, 14, 15, 16, 18]),
-    call("find-image", &["ok"], &[1, 2, 3, 4, 5, 7, 8, 14, 15, 16, 18]),
-    call("view", &["ok"], &[1, 2, 3, 4, 5, 7, 8, 9, 14, 15, 16, 18]),
-    call("view-entry", &["ok"], &[1, 2, 3, 4, 5, 7, 8, 14, 15, 18]),
-    call("view-bytes", &["ok"], &[1, 2, 3, 4, 5, 7, 8, 14, 15, 16, 17, 18]),
-    call("start", &["ok"], &[9, 12]),
-    call("extend", &["ok"], &[1, 2, 3, 4, 5, 12, 14, 18]),
-    call("aspt-read", &["ok"], &[1, 2, 3, 4, 5, 6, 7]),
-    call("aspt-write", &["ok"], &[5, 6, 7, 12]),
-    call("guids", &["ok"], &[1, 2, 3, 6]),
-    call("guid-find", &["ok"], &[1, 2, 3, 6, 8]),
-    call("guid-start", &["ok"], &[12]),
-    call("guid-extend", &["ok"], &[1, 2, 3, 6, 12, 13]),
+    on_directory("directory", &["ok"], &[(Nothing, &[2, 7, 8, 9, 15])], BY_LEVEL),
+    on_directory("entry", &["ok"], &[(Nothing, &[2, 7, 8, 9, 15])], BY_LEVEL),
+    on_directory("bytes", &["ok"], &[(Nothing, &[2, 7, 8, 9, 15])], BYTES_BY_LEVEL),
+    on_directory("find", &["ok"], &[(Nothing, &[2, 7, 9, 15]), (Tested, &[8])], BY_LEVEL),
+    on_directory("find-image", &["ok"], &[(Nothing, &[2, 7, 15]), (Tested, &[8])], BY_LEVEL),
+    on_directory("view", &["ok"], &[(Nothing, &[2, 7, 8, 9, 15])], BY_LEVEL),
+    on_directory("view-entry", &["ok"], &[(Nothing, &[7, 8, 15])], BY_COOKIE),
+    on_directory("view-bytes", &["ok"], &[(Nothing, &[7, 8, 15])], BYTES_BY_COOKIE),
+    call("start", &["ok"], &[(Nothing, &[9, 12])]),
+    on_directory("extend", &["ok"], &[(Nothing, &[3, 5, 12, 14, 18])], BY_COOKIE),
+    call("aspt-read", &["ok"], &[(Nothing, &[1, 2, 3, 4, 5, 6, 7])]),
+    call("aspt-write", &["ok"], &[(Nothing, &[5, 6, 7, 12])]),
+    call("guids", &["ok"], &[(Nothing, &[1, 2, 3, 6])]),
+    call("guid-find", &["ok"], &[(Nothing, &[1, 2, 3, 6]), (Tested, &[8])]),
+    call("guid-start", &["ok"], &[(Nothing, &[12])]),
+    call("guid-extend", &["ok"], &[(Nothing, &[1, 2, 3, 6, 12, 13])]),
     call("mailbox", &["ok"], &[]),
     call("mailbox-of", &["ok"], &[]),
-    call("post", &["ok"], &[5, 9, 10]),
-    call("load", &["yes", "no"], &[5]),
-    call("turn", &["yes", "no"], &[5]),
-    call("unload", &["yes", "no"], &[5]),
-    call("take", &["ok"], &[5, 8, 9, 11]),
+    call("post", &["ok"], &[(Nothing, &[5, 9, 10])]),
+    call("load", &["yes", "no"], &[(Nothing, &[5])]),
+    call("turn", &["yes", "no"], &[(Nothing, &[5])]),
+    call("unload", &["yes", "no"], &[(Nothing, &[5])]),
+    call("take", &["ok"], &[(Nothing, &[5, 8, 9, 11])]),
     call("firmware", &["ok"], &[]),
 ];
 
@@ -59,8 +155,8 @@ pub const CALLS: &[Call] = &[
 pub enum Kind {
     /// The call was accepted; the answer's first word.
     Given(String),
-    /// The number of the refusal.
-    Refused(u8),
+    /// The number of the refusal, and what it carries.
+    Refused(u8, Carried),
     BadLine,
     /// No answer that the language has.
     Strange(String),
@@ -72,14 +168,14 @@ impl Kind {
             return Kind::BadLine;
         }
         let text = String::from_utf8_lossy(answer);
-        let mut words = text.split(' ');
-        match (words.next(), words.next()) {
-            (Some("refused"), Some(number)) => match number.parse() {
-                Ok(number) => Kind::Refused(number),
-                Err(_) => Kind::Strange(text.into_owned()),
+        let words: Vec<&str> = text.split(' ').collect();
+        match words[..] {
+            ["refused", number, ref behind @ ..] => match (number.parse(), Carried::of(behind)) {
+                (Ok(number), Some(carried)) => Kind::Refused(number, carried),
+                _ => Kind::Strange(text.into_owned()),
             },
-            (Some(first), _) => Kind::Given(first.to_string()),
-            (None, _) => Kind::Strange(text.into_owned()),
+            [first, ..] => Kind::Given(first.to_string()),
+            [] => Kind::Strange(text.into_owned()),
         }
     }
 
@@ -87,7 +183,7 @@ impl Kind {
     fn fits(&self, call: &Call) -> bool {
         match self {
             Kind::Given(word) => call.given.contains(&word.as_str()),
-            Kind::Refused(number) => call.refusals.contains(number),
+            Kind::Refused(number, carried) => call.refusals().any(|due| due == (*number, *carried)),
             Kind::BadLine => true,
             Kind::Strange(_) => false,
         }
@@ -98,7 +194,7 @@ impl fmt::Display for Kind {
     fn fmt(&self, to: &mut fmt::Formatter<'_>) -> fmt::Result {
         match self {
             Kind::Given(word) => write!(to, "{word}"),
-            Kind::Refused(number) => write!(to, "refused {number}"),
+            Kind::Refused(number, carried) => write!(to, "refused {number}{carried}"),
             Kind::BadLine => write!(to, "bad line"),
             Kind::Strange(text) => write!(to, "strange answer {text:?}"),
         }
@@ -177,12 +273,13 @@ impl Tally {
         let mut missed = Vec::new();
         for call in CALLS {
             let given = call.given.iter().map(|word| Kind::Given(word.to_string()));
-            let refused = call.refusals.iter().map(|number| Kind::Refused(*number));
+            let refused = call.refusals();
+            let refused = refused.map(|(number, carried)| Kind::Refused(number, carried));
             for kind in given.chain(refused).chain([Kind::BadLine]) {
                 let amount = self.amount(call.name, &kind);
                 let least = if kind == Kind::BadLine { 1 } else { least };
                 if amount < least {
-                    missed.push(format!("{}: {kind} {amount}", call.name));
+                    missed.push(format!("{}: {kind}: {amount}", call.name));
                 }
             }
         }
@@ -199,7 +296,7 @@ impl Tally {
                     None => ("no call", *kind == Kind::BadLine),
                 };
                 if !fits {
-                    misplaced.push(format!("{name}: {kind} {amount}"));
+                    misplaced.push(format!("{name}: {kind}: {amount}"));
                 }
             }
         }
@@ -207,14 +304,14 @@ impl Tally {
     }
 }
 
-/// A line for each call: `directory: ok 8, refused 1 3, bad line 2`.
+/// A line for each call: `directory: ok: 8, refused 4 level=1: 3, bad line: 2`.
 impl fmt::Display for Tally {
     fn fmt(&self, to: &mut fmt::Formatter<'_>) -> fmt::Result {
         for (place, kinds) in &self.kinds {
             let name = CALLS.get(*place).map_or("no call", |call| call.name);
             let kinds = kinds
                 .iter()
-                .map(|(kind, amount)| format!("{kind} {amount}"));
+                .map(|(kind, amount)| format!("{kind}: {amount}"));
             writeln!(to, "{name}: {}", kinds.collect::<Vec<_>>().join(", "))?;
         }
         Ok(())
@@ -242,19 +339,25 @@ mod tests {
             ("find a 1 2 3", "refused 8 tested=3"),
             ("\tfind\ta 1 2 3 # why", "ok index=0 tested=1"),
             ("find a 1 2 4", "refused 15"),
+            ("find a 2 2 4", "refused 5 level=1 index=7"),
+            ("find a 2 2 4", "refused 5 level=1 index=511"),
+            ("find a 2 2 4", "refused 5 level=2"),
             ("find# a", "bad line"),
             ("findings", "bad line"),
             ("load", "yes"),
         ]);
         let shown =
-            "find: ok 1, refused 8 1, refused 15 1, bad line 1\nload: yes 1\nno call: bad line 1\n";
+            "find: ok: 1, refused 5 level=2: 1, refused 5 level=1 index: 2, refused 8 tested: 1, \
+                     refused 15: 1, bad line: 1\nload: yes: 1\nno call: bad line: 1\n";
         assert_eq!(tally.to_string(), shown);
-        assert_eq!((tally.answers(), tally.answers_of_library()), (6, 4));
+        assert_eq!((tally.answers(), tally.answers_of_library()), (9, 7));
         assert_eq!(tally.misplaced(), [""; 0]);
         let mut twice = tally.clone();
         twice.add(&tally);
-        assert_eq!(twice.answers(), 12);
-        assert_eq!(twice.amount("find", &Kind::Refused(15)), 2);
+        assert_eq!(twice.answers(), 18);
+        assert_eq!(twice.amount("find", &Kind::Refused(15, Nothing)), 2);
+        assert_eq!(twice.amount("find", &Kind::Refused(5, Entry(1))), 4);
+        assert_eq!(twice.amount("find", &Kind::Refused(5, Entry(2))), 0);
     }
 
     #[test]
@@ -263,10 +366,90 @@ mod tests {
             ("find a 1 2 3", "refused 17"),
             ("find a 1 2 3", "yes"),
             ("find a 1 2 3", "refused x"),
+            ("find a 1 2 3", "refused 8"),
+            ("find a 1 2 3", "refused 15 tested=0"),
+            ("directory a 1", "refused 8 tested=0"),
             ("load", "ok"),
             ("nothing", "ok"),
         ] {
             assert_eq!(tally(&[(line, answer)]).misplaced().len(), 1, "{line}");
+        }
+    }
+
+    #[test]
+    fn a_place_that_a_refusal_does_not_have_is_misplaced() {
+        for (line, due, not_due) in [
+            // the checks of a header, with the level asked for or that of the cookie
+            ("directory a 1", "refused 4 level=1", "refused 4"),
+            ("directory a 1", "refused 2 level=1", "refused 2 level=0"),
+            ("directory a 2", "refused 5 level=2", "refused 5 level=3"),
+            ("view-entry a 0 0", "refused 2 level=0", "refused 2 level=1"),
+            ("view-entry a 0 0", "refused 2 level=0", "refused 2"),
+            (
+                "extend a 1 0 0 0 0",
+                "refused 1 level=0",
+                "refused 4 level=0",
+            ),
+            // inside an entry
+            (
+                "entry a 1 0",
+                "refused 5 level=1 index=0",
+                "refused 14 level=1 index=0",
+            ),
+            (
+                "entry a 2 0",
+                "refused 14 level=2 index=9",
+                "refused 14 level=2",
+            ),
+            (
+                "entry a 2 0",
+                "refused 16 level=1 index=2",
+                "refused 16 level=2 index=2",
+            ),
+            (
+                "view-entry a 0 0",
+                "refused 18 level=1 index=1",
+                "refused 7 level=1 index=1",
+            ),
+            ("bytes a 2 0", "refused 17 level=2 index=0", "refused 17"),
+            (
+                "view-bytes a 0 0",
+                "refused 7 level=2 index=0",
+                "refused 7 level=0 index=0",
+            ),
+            // nowhere
+            ("directory a 1", "refused 7", "refused 7 level=1"),
+            ("directory a 2", "refused 8", "refused 8 level=1"),
+            ("extend a 1 0 0 0 0", "refused 12", "refused 12 level=1"),
+            ("start a 1", "refused 12", "refused 12 level=1"),
+            ("aspt-read a", "refused 5", "refused 5 level=1"),
+            // in words of another form
+            ("directory a 1", "refused 4 level=1", "refused 4 index=1"),
+            ("directory a 1", "refused 4 level=1", "refused 4 level=1 "),
+            ("directory a 1", "refused 4 level=1", "refused 4 level="),
+            ("directory a 1", "refused 4 level=1", "refused 4 level=+1"),
+            (
+                "directory a 1",
+                "refused 5 level=1 index=2",
+                "refused 5 index=2 level=1",
+            ),
+            (
+                "directory a 1",
+                "refused 5 level=1 index=2",
+                "refused 5 level=1 index=2 tested=0",
+            ),
+        ] {
+            assert_eq!(tally(&[(line, due)]).misplaced(), [""; 0], "{due}");
+            assert_eq!(tally(&[(line, not_due)]).misplaced().len(), 1, "{not_due}");
+        }
+    }
+
+    #[test]
+    fn no_call_has_a_refusal_twice() {
+        for call in CALLS {
+            let all: Vec<(u8, Carried)> = call.refusals().collect();
+            let different: BTreeSet<&(u8, Carried)> = all.iter().collect();
+            assert_eq!(all.len(), different.len(), "{}", call.name);
         }
     }
 
@@ -281,7 +464,7 @@ mod tests {
             let missed = tally.missed(least).into_iter();
             missed.filter(|text| text.starts_with("start: ")).collect()
         };
-        assert_eq!(of_start(1), ["start: refused 12 0", "start: bad line 0"]);
+        assert_eq!(of_start(1), ["start: refused 12: 0", "start: bad line: 0"]);
         assert_eq!(of_start(2).len(), 3);
     }
 

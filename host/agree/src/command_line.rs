@@ -21,7 +21,7 @@ agree: random calls, given to the tool and to the second program; two answers th
   --cases          the recorded cases of host/cases in the place of random calls: what the second program answers is held
                    against what was recorded
 
-After the subjects comes a table: for each call how often it was accepted, refused with which number, or a bad line.
+After the subjects comes a table: for each call how often it was accepted, refused with which number and where, or a bad line.
 A difference is printed with the seed and as a script of a few lines that shows it, with the answers of both programs. The
 script and the answers are also written, as a case has them, to agree-difference.* beside the programs.
 The last line is 'N passed, M failed', counting subjects or cases.

@@ -1,13 +1,14 @@
 //! The calls that stand beside document 01's and have no line in the ask language (the EFS, the directory pointer, the entries
-//! that repeat, all entries of a directory, all directories of an image, a firmware binary's version, that of an entry, and the
-//! entry at an index of a GUID table), set side by side: the library by its bindings, and the second program.
+//! that repeat, all entries of a directory, all directories of an image, a firmware binary's version, that of an entry, what is
+//! wrong at a place, and the entry at an index of a GUID table), set side by side: the library by its bindings, and the second
+//! program. So is the place of every refusal: a line of the language has its level and index, and not where its directory begins.
 
 use agree::board::{entry, Board, EFS, LENGTH, LEVEL_ONE, LEVEL_TWO, WINDOW};
 use agree::cases;
 use agree::random::Random;
 use agree::subjects::directory::{tell_apart, Directory, Entry, CLASSES, LEAD, SUBPROGRAMS};
 use agree::subjects::guids;
-use bindings::Refusal;
+use bindings::{Place, Refusal};
 use std::collections::{BTreeMap, BTreeSet};
 use std::time::{SystemTime, UNIX_EPOCH};
 
@@ -22,14 +23,12 @@ const CANDIDATES: [usize; 6] = [
     0x06_0000, 0x0E_0000, 0x1E_0000, 0x3E_0000, 0x7E_0000, 0xFE_0000,
 ];
 
-/// What a call answers, in numbers alone, so that answers of both programs can be compared.
-type Told = Result<Vec<u64>, (u64, Option<u64>)>;
+/// What a call answers, in numbers alone and in the bindings' refusals, so that answers of both programs can be compared.
+type Told = bindings::Answer<Vec<u64>>;
 
 /// What the library answers.
 fn by_library<T>(answer: bindings::Answer<T>, values: impl FnOnce(T) -> Vec<u64>) -> Told {
-    answer
-        .map(values)
-        .map_err(|refusal| (refusal.number, refusal.tested))
+    answer.map(values)
 }
 
 /// What the second program answers.
@@ -37,9 +36,15 @@ fn by_second<T>(
     answer: Result<T, second::refusal::Refusal>,
     values: impl FnOnce(T) -> Vec<u64>,
 ) -> Told {
-    answer
-        .map(values)
-        .map_err(|refusal| (u64::from(refusal.number), refusal.tested))
+    answer.map(values).map_err(|refusal| Refusal {
+        number: refusal.number.into(),
+        tested: refusal.tested,
+        place: refusal.place.map(|place| Place {
+            level: place.level.into(),
+            index: place.index,
+            directory: place.directory,
+        }),
+    })
 }
 
 fn efs_by_both(image: &[u8]) -> [Told; 2] {
@@ -195,6 +200,11 @@ fn guid_entry_by_both(image: &[u8], index: usize) -> [Told; 2] {
     ]
 }
 
+/// The number of an answer, 0 where it was accepted.
+fn number_of_answer(told: &Told) -> u64 {
+    told.as_ref().err().map_or(0, |refusal| refusal.number)
+}
+
 /// The numbers that were answered, 0 for what was accepted.
 #[derive(Default)]
 struct Seen(BTreeSet<u64>);
@@ -203,7 +213,7 @@ impl Seen {
     /// Holds two answers to be one, and notes its number.
     fn note(&mut self, [library, second]: [Told; 2], whence: &str) {
         assert_eq!(library, second, "library and second program, {whence}");
-        self.0.insert(library.err().map_or(0, |(number, _)| number));
+        self.0.insert(number_of_answer(&library));
     }
 
     /// Every number that is due has come, and no other.
@@ -387,8 +397,7 @@ fn note_guid_entries(seen: &mut Seen, image: &[u8], whence: &str) {
         let answers = guid_entry_by_both(image, index);
         if bindings::guids(image).is_ok() {
             let due = if index < entries { 0 } else { Refusal::ABSENT };
-            let number = answers[0].as_ref().err().map_or(0, |(number, _)| *number);
-            assert_eq!(number, due, "library, {whence}");
+            assert_eq!(number_of_answer(&answers[0]), due, "library, {whence}");
         }
         seen.note(answers, &whence);
     }
@@ -485,7 +494,30 @@ fn both_answer(image: &[u8], level: u32, expected: Told, whence: &str) {
 }
 
 fn refused(number: u64) -> Told {
-    Err((number, None))
+    Err(Refusal::alone(number))
+}
+
+/// A refusal that is met in the header of the board's directory of a level, and in an entry of it.
+fn in_header(number: u64, level: u32) -> Told {
+    let place = if level == 1 { LEVEL_ONE } else { LEVEL_TWO };
+    met_at(number, level, None, place)
+}
+
+fn in_entry(number: u64, level: u32, index: u64) -> Told {
+    let place = if level == 1 { LEVEL_ONE } else { LEVEL_TWO };
+    met_at(number, level, Some(index), place)
+}
+
+fn met_at(number: u64, level: u32, index: Option<u64>, directory: usize) -> Told {
+    let place = Place {
+        level: level.into(),
+        index,
+        directory: directory as u64,
+    };
+    Err(Refusal {
+        place: Some(place),
+        ..Refusal::alone(number)
+    })
 }
 
 #[test]
@@ -515,7 +547,7 @@ fn both_name_the_first_entry_that_repeats_and_the_first_that_it_repeats() {
             both_answer(&image, level, Ok(expected.to_vec()), &whence);
             // The other level is good, or is not reached.
             let other = if level == 1 {
-                refused(Refusal::REPEATED)
+                in_entry(Refusal::REPEATED, 1, later as u64)
             } else {
                 refused(Refusal::ABSENT)
             };
@@ -530,7 +562,7 @@ fn both_name_the_first_entry_that_repeats_and_the_first_that_it_repeats() {
     both_answer(
         &image,
         2,
-        refused(Refusal::REPEATED),
+        in_entry(Refusal::REPEATED, 1, 7),
         "repeats in both levels",
     );
 }
@@ -551,33 +583,33 @@ fn both_tell_the_refusal_of_the_directory_where_it_is_not_18() {
             ("nothing else", named.clone(), repeats(&|_| ())),
             (
                 "checksum",
-                refused(Refusal::CHECKSUM),
+                in_header(Refusal::CHECKSUM, level),
                 repeats(&|one| one.wrong = 1),
             ),
             (
                 "total",
-                refused(Refusal::LIMITS),
+                in_header(Refusal::LIMITS, level),
                 repeats(&|one| one.total = 513),
             ),
             (
                 "cookie",
-                refused(Refusal::SIGNATURE),
+                in_header(Refusal::SIGNATURE, level),
                 repeats(&|one| one.cookie = [0; 4]),
             ),
             (
                 "reserved",
-                refused(Refusal::FIELD),
+                in_header(Refusal::FIELD, level),
                 repeats(&|one| one.reserved = 1),
             ),
             // Entry by entry, and in an entry its reserved bits before what it repeats.
             (
                 "an earlier entry",
-                refused(Refusal::FIELD),
+                in_entry(Refusal::FIELD, level, 199),
                 repeats(&|one| one.entries[199].reserved = 1),
             ),
             (
                 "the entry itself",
-                refused(Refusal::FIELD),
+                in_entry(Refusal::FIELD, level, 200),
                 repeats(&|one| one.entries[200].reserved = 1),
             ),
             (
@@ -604,7 +636,7 @@ fn both_tell_the_refusal_of_the_directory_where_it_is_not_18() {
     both_answer(
         &misplaced(199),
         2,
-        refused(Refusal::MISPLACED),
+        in_entry(Refusal::MISPLACED, 2, 199),
         "a lead before the repeat",
     );
     let named = Ok(vec![200, 100, 0, 2]);
@@ -771,8 +803,7 @@ fn both_tell_directories(image: &[u8], expected: &[[u64; 4]]) {
 }
 
 #[track_caller]
-fn both_refuse_directories(image: &[u8], number: u64) {
-    let expected = refused(number);
+fn both_refuse_directories(image: &[u8], expected: Told) {
     assert_eq!(directories_by_both(image), [expected.clone(), expected]);
 }
 
@@ -810,30 +841,44 @@ fn both_tell_the_first_fault_of_all_directories() {
     let leading =
         |places: &[u64]| image_of_levels(level_one_leading_to(places), &small_levels_two());
     // Of several faults the first lead's, whichever stands behind it.
-    for (places, number) in [
-        ([first, second, end + 1], Refusal::OUTSIDE),
-        ([first, end, end + 1], Refusal::SHORT),
-        ([end + 1, end, first], Refusal::OUTSIDE),
-        ([LEVEL_ONE as u64, first, end], Refusal::SIGNATURE),
-        ([third, 0, end], Refusal::SIGNATURE),
+    for (places, expected) in [
+        ([first, second, end + 1], in_entry(Refusal::OUTSIDE, 1, 3)),
+        (
+            [first, end, end + 1],
+            met_at(Refusal::SHORT, 2, None, LENGTH),
+        ),
+        ([end + 1, end, first], in_entry(Refusal::OUTSIDE, 1, 1)),
+        (
+            [LEVEL_ONE as u64, first, end],
+            met_at(Refusal::SIGNATURE, 2, None, LEVEL_ONE),
+        ),
+        ([third, 0, end], met_at(Refusal::SIGNATURE, 2, None, 0)),
     ] {
-        both_refuse_directories(&leading(&places), number);
+        both_refuse_directories(&leading(&places), expected);
     }
     let places = [first, second, third];
-    let faults: [(&dyn Fn(&mut Directory), u64); 7] = [
-        (&|two| two.cookie = [0; 4], Refusal::SIGNATURE),
-        (&|two| two.total = 513, Refusal::LIMITS),
-        (&|two| two.wrong = 1, Refusal::CHECKSUM),
-        (&|two| two.reserved = 1, Refusal::FIELD),
-        (&|two| two.entries[1].reserved = 1, Refusal::FIELD),
-        (&|two| two.entries[1].class = LEAD, Refusal::MISPLACED),
-        (&|two| two.entries[1].subprogram = 0, Refusal::REPEATED),
+    let faults: [(&dyn Fn(&mut Directory), u64, Option<u64>); 7] = [
+        (&|two| two.cookie = [0; 4], Refusal::SIGNATURE, None),
+        (&|two| two.total = 513, Refusal::LIMITS, None),
+        (&|two| two.wrong = 1, Refusal::CHECKSUM, None),
+        (&|two| two.reserved = 1, Refusal::FIELD, None),
+        (&|two| two.entries[1].reserved = 1, Refusal::FIELD, Some(1)),
+        (
+            &|two| two.entries[1].class = LEAD,
+            Refusal::MISPLACED,
+            Some(1),
+        ),
+        (
+            &|two| two.entries[1].subprogram = 0,
+            Refusal::REPEATED,
+            Some(1),
+        ),
     ];
-    for (fault, number) in faults {
+    for (fault, number, index) in faults {
         let mut two = small_levels_two();
         fault(&mut two[2]);
         let image = image_of_levels(level_one_leading_to(&places), &two);
-        both_refuse_directories(&image, number);
+        both_refuse_directories(&image, met_at(number, 2, index, LEVELS_TWO[2]));
         // Where no entry leads there it has no part in the answer.
         let image = image_of_levels(level_one_leading_to(&places[..2]), &two);
         let expected = [
@@ -846,14 +891,15 @@ fn both_tell_the_first_fault_of_all_directories() {
     let mut one = level_one_leading_to(&[end + 1]);
     one.entries[0].class = LEAD;
     let repeats = image_of_levels(one, &small_levels_two());
-    both_refuse_directories(&repeats, Refusal::REPEATED);
+    both_refuse_directories(&repeats, in_entry(Refusal::REPEATED, 1, 1));
     let mut one = level_one_leading_to(&[first, second]);
     one.entries[2].word = second | 3 << 62;
     let mode = image_of_levels(one, &small_levels_two());
-    both_refuse_directories(&mode, Refusal::MODE);
-    both_refuse_directories(&Board::with(|board| board.late = 0), Refusal::ABSENT);
-    both_refuse_directories(&[], Refusal::IMAGE);
-    both_refuse_directories(&[0], Refusal::SIGNATURE);
+    both_refuse_directories(&mode, in_entry(Refusal::MODE, 1, 2));
+    let without_pointer = Board::with(|board| board.late = 0);
+    both_refuse_directories(&without_pointer, refused(Refusal::ABSENT));
+    both_refuse_directories(&[], refused(Refusal::IMAGE));
+    both_refuse_directories(&[0], refused(Refusal::SIGNATURE));
 }
 
 /// An entry that leads, mostly to a level two, by any mode.
@@ -990,4 +1036,534 @@ fn both_tell_the_same_directories_and_entries_of_every_recorded_image() {
     });
     directories.hold_at_least(&[0, 1, 2, 3, 4, 5, 7, 8, 14, 15, 16, 18]);
     entries.hold_at_least(&[0, 1, 2, 3, 4, 5, 7, 15, 18]);
+}
+
+// ---- the place of every refusal, and what is wrong there
+
+fn directory_by_both(image: &[u8], level: u32) -> [Told; 2] {
+    [
+        by_library(bindings::directory(image, level), |found| {
+            vec![found.place, found.level, found.total]
+        }),
+        by_second(second::flash::directory(image, level), |found| {
+            directory_values(&found)
+        }),
+    ]
+}
+
+/// An entry of both programs, from their calls on a level or on a view.
+fn entry_of_both(
+    library: bindings::Answer<bindings::Entry>,
+    second: Result<second::flash::Entry, second::refusal::Refusal>,
+) -> [Told; 2] {
+    [
+        by_library(library, |entry| {
+            let pair = [entry.class, entry.subprogram];
+            [&pair[..], &[entry.size, entry.location, entry.mode]].concat()
+        }),
+        by_second(second, |entry| {
+            let pair = [entry.kind, entry.subprogram].map(u64::from);
+            let others = [entry.size.into(), entry.location, entry.mode.into()];
+            [&pair[..], &others].concat()
+        }),
+    ]
+}
+
+fn part_of_both(
+    library: bindings::Answer<bindings::Part>,
+    second: Result<second::flash::Part, second::refusal::Refusal>,
+) -> [Told; 2] {
+    [
+        by_library(library, |part| vec![part.place, part.length]),
+        by_second(second, |part| vec![part.place, part.length]),
+    ]
+}
+
+fn find_by_both(image: &[u8], level: u32, (class, subprogram): (u8, u8)) -> [Told; 2] {
+    [
+        by_library(bindings::find(image, level, class, subprogram), |found| {
+            vec![found.index, found.tested]
+        }),
+        by_second(
+            second::flash::find(image, level, class, subprogram),
+            |found| vec![found.index, found.tested],
+        ),
+    ]
+}
+
+fn find_image_by_both(image: &[u8], (class, subprogram): (u8, u8)) -> [Told; 2] {
+    [
+        by_library(bindings::find_image(image, class, subprogram), |found| {
+            vec![found.place, found.level, found.index, found.tested]
+        }),
+        by_second(
+            second::flash::find_image(image, class, subprogram),
+            |found| {
+                let level = found.level.number().into();
+                vec![found.place, level, found.index, found.tested]
+            },
+        ),
+    ]
+}
+
+fn view_by_both(image: &[u8], level: u32) -> [Told; 2] {
+    [
+        by_library(bindings::view(image, level), |place| vec![place]),
+        by_second(second::flash::View::of(image, level), |view| {
+            vec![view.place]
+        }),
+    ]
+}
+
+/// Extends the directory at the start of a copy of these bytes. Both leave the same bytes, too.
+fn extend_by_both(bytes: &[u8], new: &Entry, mode: u32) -> [Told; 2] {
+    let [mut library, mut second] = [bytes.to_vec(), bytes.to_vec()];
+    let (location, size) = (new.word % (1 << 62), new.size);
+    let (class, subprogram) = new.pair();
+    let by_bindings = bindings::NewEntry {
+        class,
+        subprogram,
+        size,
+        location,
+        mode,
+    };
+    let by_other = second::flash::Entry {
+        kind: class,
+        subprogram,
+        size,
+        location,
+        mode,
+    };
+    let answers = [
+        by_library(bindings::extend(&mut library, &by_bindings), |total| {
+            vec![total]
+        }),
+        by_second(second::flash::extend(&mut second, &by_other), |total| {
+            vec![total.into()]
+        }),
+    ];
+    assert!(library == second, "the bytes differ after an extend");
+    answers
+}
+
+fn wrong_by_both(image: &[u8], level: u32, index: Option<u64>, directory: u64) -> [Told; 2] {
+    let place = Place {
+        level: level.into(),
+        index,
+        directory,
+    };
+    // The index has no part in what is wrong in a header.
+    let index = index.unwrap_or(0);
+    [
+        by_library(bindings::wrong(image, place), |wrong| {
+            let field = [wrong.number, wrong.field, wrong.bytes];
+            [&field[..], &[wrong.stands, wrong.should]].concat()
+        }),
+        by_second(
+            second::flash::wrong(image, directory, level, index),
+            |wrong| {
+                let field = [wrong.number.into(), wrong.field, wrong.bytes];
+                [&field[..], &[wrong.stands, wrong.should]].concat()
+            },
+        ),
+    ]
+}
+
+/// What a refusal was met in.
+#[derive(Clone, Copy, Debug, PartialEq, Eq, PartialOrd, Ord)]
+enum MetIn {
+    Nothing,
+    Header,
+    Entry,
+}
+use MetIn::{Entry as InEntry, Header as InHeader, Nothing};
+
+/// What came of each call: its numbers, each with what it was met in.
+#[derive(Default)]
+struct Places {
+    calls: BTreeMap<&'static str, BTreeSet<(MetIn, u64)>>,
+    /// Of the places that were asked what is wrong there: the numbers, and how far from its directory the field begins, in an entry
+    /// how far from the entry.
+    fields: BTreeSet<(MetIn, u64, u64)>,
+}
+
+impl Places {
+    /// Holds two answers to be one. Where they carry a place, both tell the same of what is wrong there, and of that number.
+    fn note(&mut self, call: &'static str, image: &[u8], answers: [Told; 2], whence: &str) {
+        let [library, second] = answers;
+        assert_eq!(
+            library, second,
+            "library and second program, {whence}, {call}"
+        );
+        let no = match library {
+            Ok(_) => return,
+            Err(no) => no,
+        };
+        let met_in = match no.place {
+            None => Nothing,
+            Some(Place { index: None, .. }) => InHeader,
+            Some(Place { index: Some(_), .. }) => InEntry,
+        };
+        let numbers = self.calls.entry(call).or_default();
+        numbers.insert((met_in, no.number));
+        if let Some(place) = no.place {
+            let (level, index) = (place.level as u32, place.index);
+            let [library, second] = wrong_by_both(image, level, index, place.directory);
+            assert_eq!(library, second, "{whence}, {call}: what is wrong there");
+            // A buffer that is extended may be none that is an image.
+            if image.is_empty() {
+                assert_eq!(library, refused(Refusal::IMAGE), "{whence}");
+                return;
+            }
+            let told = library.expect("a place that is carried has something wrong");
+            assert_eq!(told[0], no.number, "{whence}, {call}: another number");
+            let begin = place.directory + index.map_or(0, |index| 16 + 16 * index);
+            self.fields.insert((met_in, no.number, told[1] - begin));
+        }
+    }
+
+    /// What came of a call is exactly this: numbers met in nothing, in a header and in an entry.
+    fn hold(&self, call: &str, nothing: &[u64], header: &[u64], entry: &[u64]) {
+        let due = [(Nothing, nothing), (InHeader, header), (InEntry, entry)];
+        let due = due.into_iter().flat_map(|(met_in, numbers)| {
+            let numbers = numbers.iter();
+            numbers.map(move |number| (met_in, *number))
+        });
+        assert_eq!(self.calls[call], due.collect(), "{call}");
+    }
+
+    /// Every field that can be wrong has been.
+    fn hold_every_field(&self) {
+        let header = [(1, 0), (1, 16), (2, 0), (3, 8), (4, 4), (5, 12)];
+        let entry = [(5, 2), (14, 0), (18, 0), (17, 0), (16, 8), (7, 8)];
+        let header = header
+            .into_iter()
+            .map(|(number, at)| (InHeader, number, at));
+        let entry = entry.into_iter().map(|(number, at)| (InEntry, number, at));
+        assert_eq!(self.fields, header.chain(entry).collect());
+    }
+
+    /// Every call on an image.
+    fn ask(
+        &mut self,
+        image: &[u8],
+        level: u32,
+        place: u64,
+        index: u64,
+        pair: (u8, u8),
+        whence: &str,
+    ) {
+        let view = second::flash::View { image, place };
+        let (at, i) = (place as usize, index as usize);
+        let calls = [
+            ("directory", directory_by_both(image, level)),
+            ("repeated", repeated_by_both(image, level)),
+            (
+                "entry",
+                entry_of_both(
+                    bindings::entry(image, level, i),
+                    second::flash::entry(image, level, index),
+                ),
+            ),
+            (
+                "bytes",
+                part_of_both(
+                    bindings::part(image, level, i),
+                    second::flash::bytes(image, level, index),
+                ),
+            ),
+            ("find", find_by_both(image, level, pair)),
+            ("find-image", find_image_by_both(image, pair)),
+            ("directories", directories_by_both(image)),
+            ("version", entry_version_by_both(image, level, index)),
+            ("view", view_by_both(image, level)),
+            (
+                "view-entry",
+                entry_of_both(bindings::view_entry(image, at, i), view.entry(index)),
+            ),
+            (
+                "view-bytes",
+                part_of_both(bindings::view_part(image, at, i), view.bytes(index)),
+            ),
+            ("entries", entries_by_both(image, place)),
+            ("view-version", view_version_by_both(image, place, index)),
+        ];
+        for (call, answers) in calls {
+            self.note(call, image, answers, whence);
+        }
+    }
+}
+
+/// An image whose directories are often broken, and whose pointer may lead to the image's end or out of it.
+fn random_faulty_image(random: &mut Random) -> Vec<u8> {
+    let mut one = random_level_one(random);
+    if random.once_in(8) {
+        // The first lead decides of level two.
+        if let Some(lead) = one.entries.iter_mut().find(|entry| entry.class == LEAD) {
+            lead.word = (LENGTH as u64 + 1) | 1 << 62;
+        }
+    }
+    if random.once_in(5) {
+        one.break_one(random);
+    }
+    let two = [(); 3].map(|()| {
+        let mut two = random_level_two(random);
+        if random.once_in(3) {
+            two.break_one(random);
+        }
+        two
+    });
+    let beginning = one.bytes();
+    let mut image = image_of_levels(one, &two);
+    let point = |image: &mut Vec<u8>, value: u32| {
+        image[EFS + 0x14..EFS + 0x18].copy_from_slice(&value.to_le_bytes());
+    };
+    match random.below(16) {
+        0 => point(&mut image, pointer_value(random, LENGTH)),
+        // The header or the entries are cut off.
+        1 | 2 => {
+            let back = random.one_of(&[8, 16, 24, 32]).min(beginning.len());
+            let place = LENGTH - back;
+            image[place..].copy_from_slice(&beginning[..back]);
+            point(&mut image, place as u32);
+        }
+        // The window moves with the end.
+        3 => image.truncate(random.one_of(&[0, 1, LEVEL_ONE + 20, LENGTH - 1])),
+        _ => (),
+    }
+    image
+}
+
+/// The numbers of a header, and of an entry by itself.
+const HEADER_NUMBERS: [u64; 5] = [1, 2, 3, 4, 5];
+const ENTRY_NUMBERS: [u64; 3] = [5, 14, 18];
+
+#[test]
+fn both_carry_the_same_places_on_random_boards() {
+    let seed = seed_for("the places of refusals");
+    let mut random = Random::from_seed(seed);
+    let mut places = Places::default();
+    for trial in 0..TRIALS / 4 {
+        let image = random_faulty_image(&mut random);
+        for level in [1, 2, 2, random.one_of(&[0, 3, u32::MAX])] {
+            let place = random_place(&mut random);
+            let index = random.one_of(&[0, 0, 1, 2, 5, 39, 511, 1 << 32, u64::MAX]);
+            let pair = (random.one_of(&CLASSES), random.one_of(&SUBPROGRAMS));
+            let whence = format!(
+                "seed {seed}, trial {trial}, level {level}, place {place:#x}, index {index}"
+            );
+            places.ask(&image, level, place, index, pair, &whence);
+        }
+    }
+    let of_level = [5, 7, 14, 16, 18];
+    let of_bytes = [5, 7, 14, 16, 17, 18];
+    for call in ["directory", "repeated", "entry", "find", "view"] {
+        places.hold(call, &[2, 7, 8, 9, 15], &HEADER_NUMBERS, &of_level);
+    }
+    places.hold("bytes", &[2, 7, 8, 9, 15], &HEADER_NUMBERS, &of_bytes);
+    // The bytes of an entry are too few for a version, or lack its mark.
+    places.hold("version", &[1, 2, 7, 8, 9, 15], &HEADER_NUMBERS, &of_bytes);
+    for call in ["find-image", "directories"] {
+        places.hold(call, &[2, 7, 8, 15], &HEADER_NUMBERS, &of_level);
+    }
+    places.hold("view-entry", &[7, 8, 15], &HEADER_NUMBERS, &ENTRY_NUMBERS);
+    places.hold("entries", &[7, 15], &HEADER_NUMBERS, &ENTRY_NUMBERS);
+    places.hold("view-bytes", &[7, 8, 15], &HEADER_NUMBERS, &of_bytes);
+    let nothing = [1, 2, 7, 8, 15];
+    places.hold("view-version", &nothing, &HEADER_NUMBERS, &of_bytes);
+    places.hold_every_field();
+}
+
+#[test]
+fn both_carry_the_same_places_of_a_buffer_that_is_extended() {
+    let seed = seed_for("the places of an extend");
+    let mut random = Random::from_seed(seed);
+    let mut places = Places::default();
+    for trial in 0..TRIALS {
+        let level = random.one_of(&[1, 2]);
+        let total = random.one_of(&[0, 1, 2, 5, 512]);
+        let mut entries: Vec<Entry> = (0..total).map(|_| random_row(&mut random)).collect();
+        tell_apart(&mut random, &mut entries);
+        let mut directory = Directory::of(level, entries);
+        if random.once_in(2) {
+            directory.break_one(&mut random);
+        }
+        let mut bytes = directory.bytes();
+        match random.below(8) {
+            0 => bytes.truncate(random.below(bytes.len() as u64 + 1) as usize),
+            _ => bytes.resize(bytes.len() + random.one_of(&[0, 15, 16, 17, 32]), 0xEE),
+        }
+        let new = entry(
+            random.one_of(&CLASSES),
+            random.one_of(&SUBPROGRAMS),
+            random.number() as u32,
+            random.number() >> 2,
+            0,
+        );
+        let mode = random.one_of(&[0, 1, 2, 3, 3, 4, u32::MAX]);
+        let whence = format!("seed {seed}, trial {trial}");
+        let answers = extend_by_both(&bytes, &new, mode);
+        places.note("extend", &bytes, answers, &whence);
+    }
+    let new_entry = [3, 5, 12, 14, 18];
+    places.hold("extend", &new_entry, &HEADER_NUMBERS, &ENTRY_NUMBERS);
+}
+
+#[test]
+fn both_carry_the_same_places_on_every_recorded_image() {
+    let mut places = Places::default();
+    recorded_images(|image, whence| {
+        let pointer = bindings::pointer(image).map_or(0, |pointer| pointer.place);
+        let two = bindings::view(image, 2).unwrap_or(1);
+        for (level, place) in [(1, pointer), (2, two), (3, image.len() as u64 + 1)] {
+            for index in 0..4 {
+                let whence = format!("{whence}, level {level}, place {place:#x}, index {index}");
+                places.ask(image, level, place, index, (0x99, 0x99), &whence);
+            }
+        }
+    });
+    // A recorded image for each number of each kind.
+    let due = [
+        (InHeader, &HEADER_NUMBERS[..]),
+        (InEntry, &[5, 7, 14, 16, 18]),
+        (Nothing, &[2, 7, 8, 9, 15]),
+    ];
+    for (met_in, numbers) in due {
+        for number in numbers {
+            let seen = places.calls["directory"].contains(&(met_in, *number));
+            assert!(seen, "{number}, met in {met_in:?}, did not come");
+        }
+    }
+}
+
+/// Both programs tell this of a place: number, field, bytes, what stands there and what should.
+#[track_caller]
+fn both_tell_wrong(image: &[u8], (level, index, place): (u32, Option<u64>, usize), due: [u64; 5]) {
+    let expected = Ok(due.to_vec());
+    let told = wrong_by_both(image, level, index, place as u64);
+    assert_eq!(told, [expected.clone(), expected]);
+}
+
+#[test]
+fn both_tell_what_is_wrong_in_a_header() {
+    for (level, place, cookie) in [(1, LEVEL_ONE, b"$PSP"), (2, LEVEL_TWO, b"$PL2")] {
+        let right = u64::from(u32::from_le_bytes(*cookie));
+        let at = place as u64;
+        let changed = |change: &dyn Fn(&mut Directory)| {
+            Board::with(|board| change(directory_of(board, level)))
+        };
+        let header = (level, None, place);
+        let image = changed(&|one| one.cookie = *b"$BHD");
+        both_tell_wrong(&image, header, [2, at, 4, 0x4448_4224, right]);
+        // By the cookie, which is neither, level one's should stand there.
+        let by_cookie = (0, None, place);
+        both_tell_wrong(&image, by_cookie, [2, at, 4, 0x4448_4224, 0x5053_5024]);
+        for total in [513, u32::MAX] {
+            let image = changed(&|one| one.total = total);
+            both_tell_wrong(&image, header, [3, at + 8, 4, total.into(), 512]);
+        }
+        let image = changed(&|one| one.reserved = 0x8000_0000);
+        both_tell_wrong(&image, header, [5, at + 12, 4, 0x8000_0000, 0]);
+        let good = Board::with(|_| ());
+        let sum = &good[place + 4..place + 8];
+        let sum = u32::from_le_bytes([sum[0], sum[1], sum[2], sum[3]]);
+        let image = changed(&|one| one.wrong = 1);
+        let stands = u64::from(sum ^ 1);
+        both_tell_wrong(&image, header, [4, at + 4, 4, stands, sum.into()]);
+        // Of a header that is cut, and of entries that are.
+        for there in [0, 1, 15] {
+            let image = &good[..place + there];
+            let short = [1, at, 16, there as u64, 16];
+            both_tell_wrong(image, header, short);
+            both_tell_wrong(image, by_cookie, short);
+        }
+        let size = if level == 1 { 5 * 16 } else { 4 * 16 };
+        for there in [0, 1, size - 1] {
+            let image = &good[..place + 16 + there];
+            let short = [1, at + 16, size as u64, there as u64, size as u64];
+            both_tell_wrong(image, header, short);
+            both_tell_wrong(image, by_cookie, short);
+        }
+        let whole = &good[..place + 16 + size];
+        let nothing = wrong_by_both(whole, level, Some(512), at);
+        assert_eq!(nothing, [refused(8), refused(8)]);
+    }
+}
+
+#[test]
+fn both_tell_what_is_wrong_in_an_entry() {
+    for (level, place) in [(1, LEVEL_ONE), (2, LEVEL_TWO)] {
+        let changed = |change: &dyn Fn(&mut Vec<Entry>)| {
+            Board::with(|board| change(&mut directory_of(board, level).entries))
+        };
+        let asked = |index| (level, Some(index), place);
+        let at = |index: u64| place as u64 + 16 + 16 * index;
+        for flags in [1, 0x8000, 0xFFFF] {
+            let image = changed(&|entries| entries[3].reserved = flags);
+            both_tell_wrong(&image, asked(3), [5, at(3) + 2, 2, flags.into(), 0]);
+            // Whichever entry is asked for.
+            both_tell_wrong(&image, asked(0), [5, at(3) + 2, 2, flags.into(), 0]);
+        }
+        let image = changed(&|entries| {
+            entries[2] = entry(0x77, 7, 0, 0, 1);
+            entries[1] = entry(0x77, 7, 1, 1, 1);
+        });
+        both_tell_wrong(&image, asked(2), [18, at(2), 1, 0x77, 1]);
+        let image = changed(&|entries| entries[0] = entry(0x0B, 7, 0, 0, 3));
+        both_tell_wrong(&image, asked(0), [17, at(0), 1, 0x0B, 0x0B]);
+        let image = changed(&|entries| entries[0] = entry(0x77, 7, 0, 0, 3));
+        both_tell_wrong(&image, asked(0), [16, at(0) + 8, 8, 3, 2]);
+        let end = LENGTH as u64;
+        for (size, location, mode) in [
+            (0, end + 1, 1),
+            (1, end, 1),
+            (0x100, end - 0xFF, 1),
+            (u32::MAX, 0, 1),
+            (0, WINDOW - 1, 0),
+            (0, 1 << 32, 0),
+            (2, 0xFFFF_FFFF, 0),
+            (0, end - place as u64 + 1, 2),
+            (0, (1 << 62) - 1, 2),
+        ] {
+            let image = changed(&|entries| entries[0] = entry(0x77, 7, size, location, mode));
+            both_tell_wrong(&image, asked(0), [7, at(0) + 8, 8, location, end]);
+        }
+        for (size, location, mode) in [
+            (0, end, 1),
+            (0x100, end - 0x100, 1),
+            (1, 0xFFFF_FFFF, 0),
+            (0, WINDOW, 0),
+            (0, end - place as u64, 2),
+        ] {
+            let image = changed(&|entries| entries[0] = entry(0x77, 7, size, location, mode));
+            let nothing = wrong_by_both(&image, level, Some(0), place as u64);
+            assert_eq!(nothing, [refused(8), refused(8)], "{location:#x}");
+        }
+    }
+    let misplaced = Board::with(|board| board.two.entries[1].class = LEAD);
+    let at = LEVEL_TWO as u64 + 16 + 16;
+    both_tell_wrong(&misplaced, (2, Some(1), LEVEL_TWO), [14, at, 1, 0x40, 1]);
+}
+
+#[test]
+fn both_tell_the_same_of_places_that_no_refusal_carried() {
+    let seed = seed_for("what is wrong at any place");
+    let mut random = Random::from_seed(seed);
+    let mut seen = Seen::default();
+    for trial in 0..TRIALS / 4 {
+        let image = random_faulty_image(&mut random);
+        for _ in 0..8 {
+            let place = random_place(&mut random);
+            let level = random.one_of(&[0, 0, 1, 1, 2, 2, 3, u32::MAX]);
+            let index = random.one_of(&[0, 1, 2, 5, 39, 511, 512, 1 << 32, u64::MAX]);
+            let whence = format!(
+                "seed {seed}, trial {trial}, place {place:#x}, level {level}, index {index}"
+            );
+            let answers = wrong_by_both(&image, level, Some(index), place);
+            let alone = answers[0].as_ref().err().map(|no| no.place.is_none());
+            assert_ne!(alone, Some(false), "a place is carried, {whence}");
+            seen.note(answers, &whence);
+        }
+    }
+    seen.hold(&[0, 7, 8, 9, 15]);
 }

@@ -1,4 +1,4 @@
-//! Random calls reach what there is to be reached: every answer of every call, and mailboxes that are full.
+//! Random calls reach what there is to be reached: every answer of every call, refusals at every place, and mailboxes that are full.
 
 use agree::answers::Tally;
 use agree::cases;
@@ -7,18 +7,19 @@ use agree::programs::Program;
 use agree::random::Random;
 use agree::search::Search;
 use agree::subjects::SUBJECTS;
+use std::collections::BTreeSet;
 
 /// The numbers follow from this seed, so that what is reached once is always reached.
 const SEED: u64 = 21;
 
 #[test]
-fn fifty_thousand_calls_reach_every_answer_of_every_call() {
+fn a_hundred_thousand_calls_reach_every_answer_of_every_call() {
     let mut tally = Tally::default();
     for subject in SUBJECTS {
         let search = Search {
             subject,
             seed: SEED,
-            calls: 50_000 / SUBJECTS.len() as u64,
+            calls: 100_000 / SUBJECTS.len() as u64,
         };
         let seen = search.run(&Program::tool(), &Program::second(), |_| {});
         let told = |difference| panic!("{}: {difference:?}", subject.name);
@@ -30,6 +31,42 @@ fn fifty_thousand_calls_reach_every_answer_of_every_call() {
 
 /// What random calls come to fewer than three times, and why that is no gap: nothing.
 const NOT_REACHED: [&str; 0] = [];
+
+/// The number behind a word such as `level=` in an answer.
+fn number_behind(answer: &str, name: &str) -> Option<u64> {
+    let mut words = answer.split(' ');
+    words.find_map(|word| word.strip_prefix(name)?.parse().ok())
+}
+
+#[test]
+fn refusals_are_met_in_first_entries_and_in_late_ones_of_both_levels() {
+    for subject in SUBJECTS {
+        if !["flash", "view", "build"].contains(&subject.name) {
+            continue;
+        }
+        // The indices that refusals carry, by level.
+        let mut indices = [BTreeSet::new(), BTreeSet::new()];
+        for seed in 0..8 {
+            let script = (subject.script)(&mut Random::from_seed(seed), 4000).concat();
+            let run = Program::tool().answers_to(&script, &cases::folder());
+            for answer in answers_of(&run.answers) {
+                let answer = String::from_utf8_lossy(&answer);
+                if !answer.starts_with("refused ") {
+                    continue;
+                }
+                if let Some(index) = number_behind(&answer, "index=") {
+                    let level = number_behind(&answer, "level=").expect("an index has a level");
+                    indices[level as usize - 1].insert(index);
+                }
+            }
+        }
+        for (level, indices) in (1..).zip(indices) {
+            let told = format!("{}, level {level}: {indices:?}", subject.name);
+            assert!((0..3).all(|index| indices.contains(&index)), "{told}");
+            assert!(indices.iter().any(|index| *index > 255), "{told}");
+        }
+    }
+}
 
 /// How many items a field of the firmware's state has.
 fn items(state: &str, field: &str) -> usize {

@@ -45,10 +45,24 @@ static const char *cookie_of(uint32_t level)
     return level == 1 ? "$PSP" : "$PL2";
 }
 
-/* The level of the directory that these bytes begin with. Level one stands for bytes that begin with none: its check tells. */
-static uint32_t level_by_cookie(const uint8_t *bytes, size_t length)
+/* Says that a refusal was met in the header of the directory at `place`, and passes it on. */
+static int in_header(int answer, uint32_t level, uint64_t place, struct plain_met *met)
 {
-    return length >= HEADER_BYTES && memcmp(bytes, cookie_of(2), 4) == 0 ? 2 : 1;
+    met->in = PLAIN_MET_HEADER;
+    met->level = level;
+    met->index = 0;
+    met->directory = place;
+    return answer;
+}
+
+/* The same of an entry of it. */
+static int in_entry(int answer, uint32_t level, uint64_t index, uint64_t place, struct plain_met *met)
+{
+    met->in = PLAIN_MET_ENTRY;
+    met->level = level;
+    met->index = index;
+    met->directory = place;
+    return answer;
 }
 
 /* An entry by itself: its reserved bits, and whether it may stand in a directory of the level. */
@@ -71,8 +85,8 @@ static bool holds_pair(const uint8_t *entries, uint32_t count, uint16_t pair)
 }
 
 /* Few entries. Most have a type of their own, and only one whose type was seen is held against the earlier ones: that costs
- * less than to clear the marks of all pairs. */
-static int check_few(const uint8_t *entries, uint32_t total, uint32_t level)
+ * less than to clear the marks of all pairs. Where one is refused, `refused` is its index. */
+static int check_few(const uint8_t *entries, uint32_t total, uint32_t level, uint32_t *refused)
 {
     bool type_seen[256] = {false};
 
@@ -80,17 +94,19 @@ static int check_few(const uint8_t *entries, uint32_t total, uint32_t level)
         const uint8_t *entry = entries + (size_t)i * ENTRY_BYTES;
         int answer = check_entry(entry, level);
 
-        if (answer != PLAIN_OK)
+        if (answer == PLAIN_OK && type_seen[entry[0]] && holds_pair(entries, i, get16(entry)))
+            answer = PLAIN_REPEATED;
+        if (answer != PLAIN_OK) {
+            *refused = i;
             return answer;
-        if (type_seen[entry[0]] && holds_pair(entries, i, get16(entry)))
-            return PLAIN_REPEATED;
+        }
         type_seen[entry[0]] = true;
     }
     return PLAIN_OK;
 }
 
 /* Any number of entries, in one pass: a bit for each type and subprogram that was seen. */
-static int check_many(const uint8_t *entries, uint32_t total, uint32_t level)
+static int check_many(const uint8_t *entries, uint32_t total, uint32_t level, uint32_t *refused)
 {
     uint64_t seen[PAIRS / 64];
 
@@ -101,46 +117,61 @@ static int check_many(const uint8_t *entries, uint32_t total, uint32_t level)
         uint16_t pair = get16(entry);
         uint64_t bit = UINT64_C(1) << pair % 64;
 
-        if (answer != PLAIN_OK)
+        if (answer == PLAIN_OK && seen[pair / 64] & bit)
+            answer = PLAIN_REPEATED;
+        if (answer != PLAIN_OK) {
+            *refused = i;
             return answer;
-        if (seen[pair / 64] & bit)
-            return PLAIN_REPEATED;
+        }
         seen[pair / 64] |= bit;
     }
     return PLAIN_OK;
 }
 
 /* The directory of a level at a place that does not lie beyond the bytes. */
-static int check_directory(const uint8_t *bytes, size_t length, uint64_t place, uint32_t level, struct plain_directory *found)
+static int check_directory(const uint8_t *bytes, size_t length, uint64_t place, uint32_t level, struct plain_directory *found,
+                           struct plain_met *met)
 {
     const uint8_t *header = bytes + place;
     size_t left = length - place;
-    uint32_t total;
+    uint32_t total, refused = 0;
     int answer;
 
     if (left < HEADER_BYTES)
-        return PLAIN_SHORT;
+        return in_header(PLAIN_SHORT, level, place, met);
     if (memcmp(header, cookie_of(level), 4) != 0)
-        return PLAIN_SIGNATURE;
+        return in_header(PLAIN_SIGNATURE, level, place, met);
     total = get32(header + 8);
     if (total > PLAIN_MOST_ENTRIES)
-        return PLAIN_LIMITS;
+        return in_header(PLAIN_LIMITS, level, place, met);
     if (left - HEADER_BYTES < (size_t)total * ENTRY_BYTES)
-        return PLAIN_SHORT;
+        return in_header(PLAIN_SHORT, level, place, met);
     if (get32(header + 4) != plain_checksum(header + 8, 8 + (size_t)total * ENTRY_BYTES))
-        return PLAIN_CHECKSUM;
+        return in_header(PLAIN_CHECKSUM, level, place, met);
     if (get32(header + 12) != 0)
-        return PLAIN_FIELD;
+        return in_header(PLAIN_FIELD, level, place, met);
     if (total <= FEW_ENTRIES)
-        answer = check_few(header + HEADER_BYTES, total, level);
+        answer = check_few(header + HEADER_BYTES, total, level, &refused);
     else
-        answer = check_many(header + HEADER_BYTES, total, level);
+        answer = check_many(header + HEADER_BYTES, total, level, &refused);
     if (answer != PLAIN_OK)
-        return answer;
+        return in_entry(answer, level, refused, place, met);
     found->place = place;
     found->level = level;
     found->total = total;
     return PLAIN_OK;
+}
+
+/* The same of the level that the cookie says. Of one that says none the level is told as 0. */
+static int check_by_cookie(const uint8_t *bytes, size_t length, uint64_t place, struct plain_directory *found,
+                           struct plain_met *met)
+{
+    if (length - place < HEADER_BYTES)
+        return in_header(PLAIN_SHORT, 0, place, met);
+    for (uint32_t level = 1; level <= 2; level++)
+        if (memcmp(bytes + place, cookie_of(level), 4) == 0)
+            return check_directory(bytes, length, place, level, found, met);
+    return in_header(PLAIN_SIGNATURE, 0, place, met);
 }
 
 static struct plain_entry read_entry(const uint8_t *at)
@@ -215,7 +246,7 @@ static int find_root(const uint8_t *image, size_t length, uint64_t *root)
     return PLAIN_SIGNATURE;
 }
 
-static int level_one(const uint8_t *image, size_t length, struct plain_directory *found)
+static int level_one(const uint8_t *image, size_t length, struct plain_directory *found, struct plain_met *met)
 {
     uint64_t root;
     int answer;
@@ -225,46 +256,41 @@ static int level_one(const uint8_t *image, size_t length, struct plain_directory
     answer = find_root(image, length, &root);
     if (answer != PLAIN_OK)
         return answer;
-    return check_directory(image, length, root, 1, found);
+    return check_directory(image, length, root, 1, found, met);
 }
 
-/* The level two to which an entry of level one leads. */
-static int level_two(const uint8_t *image, size_t length, const struct plain_directory *one, const struct plain_entry *entry,
-                     struct plain_directory *found)
+/* The level two to which entry `index` of level one leads. */
+static int level_two(const uint8_t *image, size_t length, const struct plain_directory *one, uint32_t index,
+                     struct plain_directory *found, struct plain_met *met)
 {
+    struct plain_entry entry = read_entry(entry_bytes(image, one, index));
     uint64_t place;
-    int answer = follow(entry, length, one->place, &place);
+    int answer = follow(&entry, length, one->place, &place);
 
+    if (answer == PLAIN_OK && place > length)
+        answer = PLAIN_OUTSIDE;
     if (answer != PLAIN_OK)
-        return answer;
-    if (place > length)
-        return PLAIN_OUTSIDE;
-    return check_directory(image, length, place, 2, found);
+        return in_entry(answer, 1, index, one->place, met);
+    return check_directory(image, length, place, 2, found, met);
 }
 
-int plain_directory(const uint8_t *image, size_t length, uint32_t level, struct plain_directory *found)
+int plain_directory(const uint8_t *image, size_t length, uint32_t level, struct plain_directory *found, struct plain_met *met)
 {
     struct plain_directory one;
     int answer;
 
     if (level != 1 && level != 2)
         return PLAIN_RANGE;
-    answer = level_one(image, length, &one);
+    answer = level_one(image, length, &one, met);
     if (answer != PLAIN_OK)
         return answer;
     if (level == 1) {
         *found = one;
         return PLAIN_OK;
     }
-    for (uint32_t i = 0; i < one.total; i++) {
-        const uint8_t *at = entry_bytes(image, &one, i);
-
-        if (at[0] == TYPE_LEVEL_TWO) {
-            struct plain_entry entry = read_entry(at);
-
-            return level_two(image, length, &one, &entry, found);
-        }
-    }
+    for (uint32_t i = 0; i < one.total; i++)
+        if (entry_bytes(image, &one, i)[0] == TYPE_LEVEL_TWO)
+            return level_two(image, length, &one, i, found, met);
     return PLAIN_ABSENT;
 }
 
@@ -295,12 +321,17 @@ static int locate(const struct plain_entry *entry, size_t length, uint64_t place
 }
 
 int plain_part_of(const uint8_t *image, size_t length, const struct plain_directory *directory, uint64_t index,
-                  struct plain_part *part)
+                  struct plain_part *part, struct plain_met *met)
 {
     struct plain_entry entry;
     int answer = plain_entry_of(image, directory, index, &entry);
 
-    return answer != PLAIN_OK ? answer : locate(&entry, length, directory->place, part);
+    if (answer != PLAIN_OK)
+        return answer;
+    answer = locate(&entry, length, directory->place, part);
+    if (answer != PLAIN_OK)
+        return in_entry(answer, directory->level, index, directory->place, met);
+    return PLAIN_OK;
 }
 
 void plain_entries_of(const uint8_t *image, size_t length, const struct plain_directory *directory, struct plain_row *rows)
@@ -312,7 +343,7 @@ void plain_entries_of(const uint8_t *image, size_t length, const struct plain_di
 }
 
 int plain_view_entries(const uint8_t *image, size_t length, uint64_t place, struct plain_row *rows,
-                       struct plain_directory *found)
+                       struct plain_directory *found, struct plain_met *met)
 {
     int answer;
 
@@ -320,30 +351,27 @@ int plain_view_entries(const uint8_t *image, size_t length, uint64_t place, stru
         return PLAIN_IMAGE;
     if (place > length)
         return PLAIN_OUTSIDE;
-    answer = check_directory(image, length, place, level_by_cookie(image + place, length - place), found);
+    answer = check_by_cookie(image, length, place, found, met);
     if (answer != PLAIN_OK)
         return answer;
     plain_entries_of(image, length, found, rows);
     return PLAIN_OK;
 }
 
-int plain_directories(const uint8_t *image, size_t length, struct plain_entered *entered, uint32_t *count)
+int plain_directories(const uint8_t *image, size_t length, struct plain_entered *entered, uint32_t *count,
+                      struct plain_met *met)
 {
     const struct plain_directory *one = &entered[0].directory;
     uint32_t found = 1;
-    int answer = level_one(image, length, &entered[0].directory);
+    int answer = level_one(image, length, &entered[0].directory, met);
 
     if (answer != PLAIN_OK)
         return answer;
     entered[0].lead = 0;
     for (uint32_t i = 0; i < one->total; i++) {
-        const uint8_t *at = entry_bytes(image, one, i);
-        struct plain_entry entry;
-
-        if (at[0] != TYPE_LEVEL_TWO)
+        if (entry_bytes(image, one, i)[0] != TYPE_LEVEL_TWO)
             continue;
-        entry = read_entry(at);
-        answer = level_two(image, length, one, &entry, &entered[found].directory);
+        answer = level_two(image, length, one, i, &entered[found].directory, met);
         if (answer != PLAIN_OK)
             return answer;
         entered[found].lead = i;
@@ -353,20 +381,22 @@ int plain_directories(const uint8_t *image, size_t length, struct plain_entered 
     return PLAIN_OK;
 }
 
-int plain_entry(const uint8_t *image, size_t length, uint32_t level, uint64_t index, struct plain_entry *entry)
+int plain_entry(const uint8_t *image, size_t length, uint32_t level, uint64_t index, struct plain_entry *entry,
+                struct plain_met *met)
 {
     struct plain_directory directory;
-    int answer = plain_directory(image, length, level, &directory);
+    int answer = plain_directory(image, length, level, &directory, met);
 
     return answer != PLAIN_OK ? answer : plain_entry_of(image, &directory, index, entry);
 }
 
-int plain_part(const uint8_t *image, size_t length, uint32_t level, uint64_t index, struct plain_part *part)
+int plain_part(const uint8_t *image, size_t length, uint32_t level, uint64_t index, struct plain_part *part,
+               struct plain_met *met)
 {
     struct plain_directory directory;
-    int answer = plain_directory(image, length, level, &directory);
+    int answer = plain_directory(image, length, level, &directory, met);
 
-    return answer != PLAIN_OK ? answer : plain_part_of(image, length, &directory, index, part);
+    return answer != PLAIN_OK ? answer : plain_part_of(image, length, &directory, index, part, met);
 }
 
 /* The index of the first match in a directory, or its total. */
@@ -383,10 +413,11 @@ static uint32_t first_match(const uint8_t *image, const struct plain_directory *
     return i;
 }
 
-int plain_find(const uint8_t *image, size_t length, uint32_t level, uint8_t type, uint8_t subprogram, struct plain_match *match)
+int plain_find(const uint8_t *image, size_t length, uint32_t level, uint8_t type, uint8_t subprogram, struct plain_match *match,
+               struct plain_met *met)
 {
     struct plain_directory directory;
-    int answer = plain_directory(image, length, level, &directory);
+    int answer = plain_directory(image, length, level, &directory, met);
     uint32_t index;
 
     if (answer != PLAIN_OK) {
@@ -413,18 +444,18 @@ static int matched(const struct plain_directory *directory, uint32_t index, uint
     return PLAIN_OK;
 }
 
-int plain_find_image(const uint8_t *image, size_t length, uint8_t type, uint8_t subprogram, struct plain_image_match *match)
+int plain_find_image(const uint8_t *image, size_t length, uint8_t type, uint8_t subprogram, struct plain_image_match *match,
+                     struct plain_met *met)
 {
     struct plain_directory one, two;
     uint64_t tested = 0;
-    int answer = level_one(image, length, &one);
+    int answer = level_one(image, length, &one, met);
 
     match->tested = 0;
     if (answer != PLAIN_OK)
         return answer;
     for (uint32_t i = 0; i < one.total; i++) {
         const uint8_t *at = entry_bytes(image, &one, i);
-        struct plain_entry entry;
         uint32_t index;
 
         tested++;
@@ -432,8 +463,7 @@ int plain_find_image(const uint8_t *image, size_t length, uint8_t type, uint8_t 
             return matched(&one, i, tested, match);
         if (at[0] != TYPE_LEVEL_TWO)
             continue;
-        entry = read_entry(at);
-        answer = level_two(image, length, &one, &entry, &two);
+        answer = level_two(image, length, &one, i, &two, met);
         if (answer != PLAIN_OK)
             return answer;
         index = first_match(image, &two, type, subprogram);
@@ -457,18 +487,17 @@ int plain_start(uint8_t *buffer, size_t length, uint32_t level)
     return PLAIN_OK;
 }
 
-int plain_extend(uint8_t *buffer, size_t length, const struct plain_entry *entry, uint32_t *total)
+int plain_extend(uint8_t *buffer, size_t length, const struct plain_entry *entry, uint32_t *total, struct plain_met *met)
 {
     struct plain_directory directory;
-    uint32_t level = level_by_cookie(buffer, length);
-    int answer = check_directory(buffer, length, 0, level, &directory);
+    int answer = check_by_cookie(buffer, length, 0, &directory, met);
     uint8_t *at;
 
     if (answer != PLAIN_OK)
         return answer;
     if (entry->location > location_mask || entry->mode > 3)
         return PLAIN_FIELD;
-    if (level == 2 && entry->type == TYPE_LEVEL_TWO)
+    if (directory.level == 2 && entry->type == TYPE_LEVEL_TWO)
         return PLAIN_MISPLACED;
     if (holds_pair(buffer + HEADER_BYTES, directory.total, (uint16_t)(entry->type | entry->subprogram << 8)))
         return PLAIN_REPEATED;

@@ -1,8 +1,9 @@
 /* A plain reading of document 01 in C, without proofs: what the proved library is measured against.
  *
  * It makes the same checks in the same order and answers the same numbers. Every call answers PLAIN_OK or the number of the
- * refusal; what it gives is written through the last pointer, and only where it is accepted. A lookup also writes how many entries
- * it tested with PLAIN_ABSENT.
+ * refusal; what it gives is written through its last pointer, and only where it is accepted. A lookup also writes how many entries
+ * it tested with PLAIN_ABSENT. Behind it a call on a directory has `met`, where it writes in which header or entry the refusal was
+ * met. One that was met in none writes nothing there, so that the caller clears it.
  */
 #ifndef PLAIN_H
 #define PLAIN_H
@@ -114,34 +115,49 @@ struct plain_image_match {
     uint64_t tested;
 };
 
+enum plain_met_in { PLAIN_MET_NOWHERE, PLAIN_MET_HEADER, PLAIN_MET_ENTRY };
+
+/* Where a refusal was met: the directory's level, 0 where no cookie told it, the index of an entry, and where the directory begins. */
+struct plain_met {
+    uint32_t in;
+    uint32_t level;
+    uint64_t index;
+    uint64_t directory;
+};
+
 uint32_t plain_checksum(const uint8_t *bytes, size_t length);
 
-int plain_directory(const uint8_t *image, size_t length, uint32_t level, struct plain_directory *found);
-int plain_entry(const uint8_t *image, size_t length, uint32_t level, uint64_t index, struct plain_entry *entry);
-int plain_part(const uint8_t *image, size_t length, uint32_t level, uint64_t index, struct plain_part *part);
-int plain_find(const uint8_t *image, size_t length, uint32_t level, uint8_t type, uint8_t subprogram, struct plain_match *match);
-int plain_find_image(const uint8_t *image, size_t length, uint8_t type, uint8_t subprogram, struct plain_image_match *match);
+int plain_directory(const uint8_t *image, size_t length, uint32_t level, struct plain_directory *found, struct plain_met *met);
+int plain_entry(const uint8_t *image, size_t length, uint32_t level, uint64_t index, struct plain_entry *entry,
+                struct plain_met *met);
+int plain_part(const uint8_t *image, size_t length, uint32_t level, uint64_t index, struct plain_part *part,
+               struct plain_met *met);
+int plain_find(const uint8_t *image, size_t length, uint32_t level, uint8_t type, uint8_t subprogram, struct plain_match *match,
+               struct plain_met *met);
+int plain_find_image(const uint8_t *image, size_t length, uint8_t type, uint8_t subprogram, struct plain_image_match *match,
+                     struct plain_met *met);
 
 /* An entry of a directory that plain_directory has found in the same image, and where its bytes lie. Nothing is checked again. */
 int plain_entry_of(const uint8_t *image, const struct plain_directory *directory, uint64_t index, struct plain_entry *entry);
 int plain_part_of(const uint8_t *image, size_t length, const struct plain_directory *directory, uint64_t index,
-                  struct plain_part *part);
+                  struct plain_part *part, struct plain_met *met);
 
 /* The most entries of a directory, and the most directories of an image: level one, and one for each subprogram that a lead has. */
 enum { PLAIN_MOST_ENTRIES = 512, PLAIN_MOST_DIRECTORIES = 257 };
 
 /* Every entry of the directory at a place, of the level that its cookie says. `rows` has room for as many as there can be. */
 int plain_view_entries(const uint8_t *image, size_t length, uint64_t place, struct plain_row *rows,
-                       struct plain_directory *found);
+                       struct plain_directory *found, struct plain_met *met);
 
 /* The same of a directory that was found in the same image. Nothing is checked again. */
 void plain_entries_of(const uint8_t *image, size_t length, const struct plain_directory *directory, struct plain_row *rows);
 
 /* Every directory that the walk through an image enters, in its order. `entered` has room for as many as there can be. */
-int plain_directories(const uint8_t *image, size_t length, struct plain_entered *entered, uint32_t *count);
+int plain_directories(const uint8_t *image, size_t length, struct plain_entered *entered, uint32_t *count,
+                      struct plain_met *met);
 
 int plain_start(uint8_t *buffer, size_t length, uint32_t level);
-int plain_extend(uint8_t *buffer, size_t length, const struct plain_entry *entry, uint32_t *total);
+int plain_extend(uint8_t *buffer, size_t length, const struct plain_entry *entry, uint32_t *total, struct plain_met *met);
 
 /* ---- The AMD Secure Processor Table ---- */
 

@@ -45,6 +45,20 @@ pub struct Entered {
     pub lead: u64,
 }
 
+/// Where a refusal was met. It is cleared before a call: one that was met in no directory writes nothing there.
+#[repr(C)]
+#[derive(Clone, Copy, Default)]
+pub struct Met {
+    pub within: u32,
+    pub level: u32,
+    pub index: u64,
+    pub directory: u64,
+}
+
+// Names for the numbers of `enum plain_met_in`; 0 stands for none.
+pub const MET_HEADER: u32 = 1;
+pub const MET_ENTRY: u32 = 2;
+
 // Names for the numbers of the enum of what there is at most.
 pub const MOST_ENTRIES: usize = 512;
 pub const MOST_DIRECTORIES: usize = 257;
@@ -192,6 +206,7 @@ extern "C" {
         length: usize,
         level: u32,
         found: *mut Directory,
+        met: *mut Met,
     ) -> Number;
 
     pub fn plain_entry(
@@ -200,6 +215,7 @@ extern "C" {
         level: u32,
         index: u64,
         entry: *mut Entry,
+        met: *mut Met,
     ) -> Number;
 
     pub fn plain_part(
@@ -208,6 +224,7 @@ extern "C" {
         level: u32,
         index: u64,
         part: *mut Part,
+        met: *mut Met,
     ) -> Number;
 
     pub fn plain_find(
@@ -217,6 +234,7 @@ extern "C" {
         class: u8,
         subprogram: u8,
         found: *mut Match,
+        met: *mut Met,
     ) -> Number;
 
     pub fn plain_find_image(
@@ -225,6 +243,7 @@ extern "C" {
         class: u8,
         subprogram: u8,
         found: *mut ImageMatch,
+        met: *mut Met,
     ) -> Number;
 
     pub fn plain_entry_of(
@@ -240,6 +259,7 @@ extern "C" {
         directory: *const Directory,
         index: u64,
         part: *mut Part,
+        met: *mut Met,
     ) -> Number;
 
     pub fn plain_view_entries(
@@ -248,6 +268,7 @@ extern "C" {
         place: u64,
         rows: *mut Row,
         found: *mut Directory,
+        met: *mut Met,
     ) -> Number;
 
     pub fn plain_entries_of(
@@ -262,6 +283,7 @@ extern "C" {
         length: usize,
         entered: *mut Entered,
         count: *mut u32,
+        met: *mut Met,
     ) -> Number;
 
     pub fn plain_start(buffer: *mut u8, length: usize, level: u32) -> Number;
@@ -271,6 +293,7 @@ extern "C" {
         length: usize,
         entry: *const Entry,
         total: *mut u32,
+        met: *mut Met,
     ) -> Number;
 
     pub fn plain_aspt_read(bytes: *const u8, length: usize, table: *mut Table) -> Number;

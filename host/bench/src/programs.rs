@@ -2,8 +2,8 @@
 
 use crate::plain;
 use bindings::{
-    Answer, AsptStructure, AsptTable, Directory, Entered, Entry, EntryRow, Firmware, Guid,
-    GuidMatch, GuidTable, ImageMatch, Interrupt, Match, NewEntry, Part, Place, Post, Refusal,
+    Answer, AsptStructure, AsptTable, CallerPlace, Directory, Entered, Entry, EntryRow, Firmware,
+    Guid, GuidMatch, GuidTable, ImageMatch, Interrupt, Match, NewEntry, Part, Place, Post, Refusal,
     Register,
 };
 
@@ -64,7 +64,8 @@ pub fn list_by_entry<P: Program + ?Sized>(
     let directory = P::directory(image, level)?;
     for index in 0..directory.total as usize {
         let entry = P::entry(image, level, index)?;
-        let part = P::part(image, level, index);
+        // As a row of all entries has it, which tells by itself which entry it is.
+        let part = P::part(image, level, index).map_err(|no| Refusal::alone(no.number));
         each(EntryRow { entry, part });
     }
     Ok(directory)
@@ -74,7 +75,7 @@ pub fn list_by_entry<P: Program + ?Sized>(
 pub trait MailboxCalls: Clone {
     fn fresh() -> Self;
     /// The mailbox described, before fresh firmware. It need not keep the rules.
-    fn of(line: &[Post], register: Register, places: [Place; 8]) -> Self;
+    fn of(line: &[Post], register: Register, places: [CallerPlace; 8]) -> Self;
     fn post(&mut self, caller: u32, command: u32, data: u16) -> Answer<()>;
     fn load(&mut self) -> Answer<bool>;
     fn turn(&mut self) -> Answer<bool>;
@@ -195,7 +196,7 @@ impl MailboxCalls for bindings::Mailbox {
         bindings::Mailbox::fresh()
     }
 
-    fn of(line: &[Post], register: Register, places: [Place; 8]) -> Self {
+    fn of(line: &[Post], register: Register, places: [CallerPlace; 8]) -> Self {
         bindings::Mailbox::of(line, register, places)
     }
 
@@ -233,6 +234,11 @@ fn refusal(refused: second::refusal::Refusal) -> Refusal {
     Refusal {
         number: u64::from(refused.number),
         tested: refused.tested,
+        place: refused.place.map(|place| Place {
+            level: u64::from(place.level),
+            index: place.index,
+            directory: place.directory,
+        }),
     }
 }
 
@@ -264,7 +270,10 @@ fn part_of(part: second::flash::Part) -> Part {
 fn row_of(told: second::flash::EntryAndBytes) -> EntryRow {
     EntryRow {
         entry: entry_of(told.entry),
-        part: told.bytes.map(part_of).map_err(refusal),
+        part: told
+            .bytes
+            .map(part_of)
+            .map_err(|refused| Refusal::alone(u64::from(refused.number))),
     }
 }
 
@@ -452,7 +461,7 @@ impl MailboxCalls for second::mailbox::Mailbox {
         second::mailbox::Mailbox::fresh()
     }
 
-    fn of(line: &[Post], register: Register, places: [Place; 8]) -> Self {
+    fn of(line: &[Post], register: Register, places: [CallerPlace; 8]) -> Self {
         use second::mailbox;
         mailbox::Mailbox {
             line: line
@@ -475,9 +484,9 @@ impl MailboxCalls for second::mailbox::Mailbox {
                 },
             },
             places: places.map(|place| match place {
-                Place::Free => mailbox::Place::Free,
-                Place::Waiting => mailbox::Place::Waiting,
-                Place::Ready(word) => mailbox::Place::Ready(word),
+                CallerPlace::Free => mailbox::Place::Free,
+                CallerPlace::Waiting => mailbox::Place::Waiting,
+                CallerPlace::Ready(word) => mailbox::Place::Ready(word),
             }),
             firmware: mailbox::Firmware::fresh(),
         }
@@ -539,9 +548,31 @@ fn given<T>(number: plain::Number, value: T) -> Answer<T> {
     }
 }
 
+/// The same of a call on a directory, whose refusal tells where it was met.
+fn given_of<T>(number: plain::Number, value: T, met: &plain::Met) -> Answer<T> {
+    given(number, value).map_err(|refused| Refusal {
+        place: place_of(met),
+        ..refused
+    })
+}
+
+/// Where it was met, if in a directory.
+fn place_of(met: &plain::Met) -> Option<Place> {
+    let index = match met.within {
+        plain::MET_HEADER => None,
+        plain::MET_ENTRY => Some(met.index),
+        _ => return None,
+    };
+    Some(Place {
+        level: u64::from(met.level),
+        index,
+        directory: met.directory,
+    })
+}
+
 /// The same of a lookup, which leaves a count where nothing was found.
-fn looked_up<T>(number: plain::Number, tested: u64, value: T) -> Answer<T> {
-    given(number, value).map_err(|refused| match refused.number {
+fn looked_up<T>(number: plain::Number, tested: u64, value: T, met: &plain::Met) -> Answer<T> {
+    given_of(number, value, met).map_err(|refused| match refused.number {
         Refusal::ABSENT => Refusal {
             tested: Some(tested),
             ..refused
@@ -589,30 +620,32 @@ impl Program for Plain {
     }
 
     fn directory(image: &[u8], level: u32) -> Answer<Directory> {
-        let mut found = plain::Directory::default();
-        let number =
-            unsafe { plain::plain_directory(image.as_ptr(), image.len(), level, &mut found) };
-        given(number, plain_directory_of(&found))
+        let (mut found, mut met) = (plain::Directory::default(), plain::Met::default());
+        let number = unsafe {
+            plain::plain_directory(image.as_ptr(), image.len(), level, &mut found, &mut met)
+        };
+        given_of(number, plain_directory_of(&found), &met)
     }
 
     fn entry(image: &[u8], level: u32, index: usize) -> Answer<Entry> {
-        let mut entry = plain::Entry::default();
-        let index = index as u64;
-        let number =
-            unsafe { plain::plain_entry(image.as_ptr(), image.len(), level, index, &mut entry) };
-        given(number, plain_entry_of(&entry))
+        let (mut entry, mut met) = (plain::Entry::default(), plain::Met::default());
+        let (index, length) = (index as u64, image.len());
+        let number = unsafe {
+            plain::plain_entry(image.as_ptr(), length, level, index, &mut entry, &mut met)
+        };
+        given_of(number, plain_entry_of(&entry), &met)
     }
 
     fn part(image: &[u8], level: u32, index: usize) -> Answer<Part> {
-        let mut part = plain::Part::default();
-        let index = index as u64;
+        let (mut part, mut met) = (plain::Part::default(), plain::Met::default());
+        let (index, length) = (index as u64, image.len());
         let number =
-            unsafe { plain::plain_part(image.as_ptr(), image.len(), level, index, &mut part) };
-        given(number, plain_part_of(&part))
+            unsafe { plain::plain_part(image.as_ptr(), length, level, index, &mut part, &mut met) };
+        given_of(number, plain_part_of(&part), &met)
     }
 
     fn find(image: &[u8], level: u32, class: u8, subprogram: u8) -> Answer<Match> {
-        let mut found = plain::Match::default();
+        let (mut found, mut met) = (plain::Match::default(), plain::Met::default());
         let number = unsafe {
             plain::plain_find(
                 image.as_ptr(),
@@ -621,16 +654,24 @@ impl Program for Plain {
                 class,
                 subprogram,
                 &mut found,
+                &mut met,
             )
         };
         let plain::Match { index, tested } = found;
-        looked_up(number, tested, Match { index, tested })
+        looked_up(number, tested, Match { index, tested }, &met)
     }
 
     fn find_image(image: &[u8], class: u8, subprogram: u8) -> Answer<ImageMatch> {
-        let mut found = plain::ImageMatch::default();
+        let (mut found, mut met) = (plain::ImageMatch::default(), plain::Met::default());
         let number = unsafe {
-            plain::plain_find_image(image.as_ptr(), image.len(), class, subprogram, &mut found)
+            plain::plain_find_image(
+                image.as_ptr(),
+                image.len(),
+                class,
+                subprogram,
+                &mut found,
+                &mut met,
+            )
         };
         let told = ImageMatch {
             place: found.place,
@@ -638,7 +679,7 @@ impl Program for Plain {
             index: found.index,
             tested: found.tested,
         };
-        looked_up(number, found.tested, told)
+        looked_up(number, found.tested, told, &met)
     }
 
     fn start(buffer: &mut [u8], level: u32) -> Answer<()> {
@@ -656,10 +697,10 @@ impl Program for Plain {
             location: entry.location,
             mode: entry.mode,
         };
-        let mut total = 0;
-        let number =
-            unsafe { plain::plain_extend(buffer.as_mut_ptr(), buffer.len(), &entry, &mut total) };
-        given(number, u64::from(total))
+        let (mut total, mut met) = (0, plain::Met::default());
+        let (bytes, length) = (buffer.as_mut_ptr(), buffer.len());
+        let number = unsafe { plain::plain_extend(bytes, length, &entry, &mut total, &mut met) };
+        given_of(number, u64::from(total), &met)
     }
 
     fn aspt_read(bytes: &[u8]) -> Answer<plain::Table> {
@@ -697,7 +738,7 @@ impl Program for Plain {
             length: found.length,
             tested: found.tested,
         };
-        looked_up(number, found.tested, told)
+        looked_up(number, found.tested, told, &plain::Met::default())
     }
 
     fn guid_start(buffer: &mut [u8]) -> Answer<()> {
@@ -728,7 +769,7 @@ impl Program for Plain {
         room: &mut PlainRoom,
         each: impl FnMut(EntryRow),
     ) -> Answer<Directory> {
-        let mut directory = plain::Directory::default();
+        let (mut directory, mut met) = (plain::Directory::default(), plain::Met::default());
         let number = unsafe {
             plain::plain_view_entries(
                 image.as_ptr(),
@@ -736,9 +777,10 @@ impl Program for Plain {
                 place as u64,
                 room.rows.as_mut_ptr(),
                 &mut directory,
+                &mut met,
             )
         };
-        given(number, ())?;
+        given_of(number, (), &met)?;
         room.rows_of(&directory).for_each(each);
         Ok(plain_directory_of(&directory))
     }
@@ -783,11 +825,12 @@ impl Default for PlainRoom {
 impl PlainRoom {
     /// Puts all directories of an image into the room, and tells how many they are.
     fn enter(&mut self, image: &[u8]) -> Answer<usize> {
-        let mut count = 0;
-        let entered = self.entered.as_mut_ptr();
-        let number =
-            unsafe { plain::plain_directories(image.as_ptr(), image.len(), entered, &mut count) };
-        given(number, count as usize)
+        let (mut count, mut met) = (0, plain::Met::default());
+        let (entered, length) = (self.entered.as_mut_ptr(), image.len());
+        let number = unsafe {
+            plain::plain_directories(image.as_ptr(), length, entered, &mut count, &mut met)
+        };
+        given_of(number, count as usize, &met)
     }
 
     /// The rows that were written for a directory.
@@ -817,7 +860,7 @@ impl MailboxCalls for plain::Mailbox {
         }
     }
 
-    fn of(line: &[Post], register: Register, places: [Place; 8]) -> Self {
+    fn of(line: &[Post], register: Register, places: [CallerPlace; 8]) -> Self {
         let mut mailbox: plain::Mailbox = MailboxCalls::fresh();
         let (phase, caller, word) = match register {
             Register::Idle => (plain::IDLE, 0, 0),
@@ -836,15 +879,15 @@ impl MailboxCalls for plain::Mailbox {
             };
         }
         mailbox.places = places.map(|place| match place {
-            Place::Free => plain::Place {
+            CallerPlace::Free => plain::Place {
                 state: plain::FREE,
                 word: 0,
             },
-            Place::Waiting => plain::Place {
+            CallerPlace::Waiting => plain::Place {
                 state: plain::WAITING,
                 word: 0,
             },
-            Place::Ready(word) => plain::Place {
+            CallerPlace::Ready(word) => plain::Place {
                 state: plain::READY,
                 word,
             },

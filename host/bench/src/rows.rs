@@ -67,6 +67,18 @@ pub const ROWS: &[Row] = &[
         },
     },
     Row {
+        name: "refused",
+        what: "directory refused for its last entry, told with its place",
+        counted: "entries",
+        n: 512,
+        growth: POWERS,
+        short: 64,
+        work: |n| {
+            let given = Rc::new(samples::one_level_faulty(n));
+            three!(directory, &given)
+        },
+    },
+    Row {
         name: "find",
         what: "lookup that misses",
         counted: "entries",
@@ -403,6 +415,11 @@ fn folded<T: Fold>(answer: &Answer<T>) -> u64 {
         Err(refused) => {
             add(&mut sum, refused.number);
             add(&mut sum, refused.tested.unwrap_or(u64::MAX));
+            if let Some(place) = refused.place {
+                add(&mut sum, place.level);
+                add(&mut sum, place.index.unwrap_or(u64::MAX));
+                add(&mut sum, place.directory);
+            }
         }
     }
     sum
@@ -489,7 +506,8 @@ impl Fold for () {
 #[cfg(test)]
 mod tests {
     use super::*;
-    use bindings::Refusal;
+    use bindings::{Place, Refusal};
+    use std::collections::BTreeSet;
 
     #[test]
     fn the_order_and_the_kind_of_answers_count() {
@@ -508,6 +526,47 @@ mod tests {
         let alone = folded::<u64>(&Err(absent));
         assert_ne!(alone, folded::<u64>(&Err(counted)));
         assert_ne!(alone, folded(&Ok(Refusal::ABSENT)));
+        // So does every part of a place.
+        let places = [
+            (1, None, 3),
+            (2, None, 3),
+            (1, Some(0), 3),
+            (1, Some(1), 3),
+            (1, Some(1), 4),
+        ];
+        let mut all = vec![alone];
+        all.extend(places.map(|(level, index, directory)| {
+            let place = Place {
+                level,
+                index,
+                directory,
+            };
+            folded::<u64>(&Err(Refusal {
+                place: Some(place),
+                ..absent
+            }))
+        }));
+        let different: BTreeSet<u64> = all.iter().copied().collect();
+        assert_eq!(different.len(), all.len());
+    }
+
+    #[test]
+    fn the_refused_directory_is_refused_for_its_last_entry_alone() {
+        for entries in [8, 64, 512] {
+            let place = Place {
+                level: 1,
+                index: Some(entries as u64 - 1),
+                directory: samples::LEVEL_ONE as u64,
+            };
+            let no = Refusal {
+                place: Some(place),
+                ..Refusal::alone(Refusal::FIELD)
+            };
+            let image = samples::one_level_faulty(entries);
+            assert_eq!(Library::directory(&image, 1), Err(no), "{entries}");
+            assert_eq!(Second::directory(&image, 1), Err(no), "{entries}");
+            assert_eq!(Plain::directory(&image, 1), Err(no), "{entries}");
+        }
     }
 
     #[test]

@@ -133,6 +133,16 @@ pub fn one_level(amount: usize) -> Vec<u8> {
     image(SHORTEST, &mixed_entries(amount, 0), &[])
 }
 
+/// The same where the last entry has a reserved bit set, which is all that is wrong.
+pub fn one_level_faulty(amount: usize) -> Vec<u8> {
+    let mut image = one_level(amount);
+    let directory = &mut image[LEVEL_ONE..][..16 + 16 * amount];
+    // The flags of an entry are its third byte and its fourth.
+    directory[16 * amount + 3] |= 0x80;
+    sum_again(directory);
+    image
+}
+
 /// A small image with `amount` entries in each level; the middle one of level one leads to level two.
 pub fn entered_once(amount: usize) -> Vec<u8> {
     let mut one = mixed_entries(amount, 0);

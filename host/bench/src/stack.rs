@@ -249,6 +249,8 @@ fn flash() -> Result<Vec<Depth>, String> {
         depth_of!(kpalumere_view_entry(&[u8]: image, usize: place, usize: 511, &mut [u64]: words) answers 0, viewed),
         depth_of!(kpalumere_view_part(&[u8]: image, usize: place, usize: 511, &mut [u64]: words) answers 0, viewed),
         depth_of!(kpalumere_view_entries(&[u8]: image, usize: place, &mut [u64]: words_for_all) answers 0, viewed),
+        depth_of!(kpalumere_wrong(&[u8]: repeats, usize: place, u32: 2, usize: 511, &mut [u64]: words) answers 0,
+            "a directory of 512 entries, of which the last repeats the one before it"),
         depth_of!(kpalumere_checksum(&[u8]: summed, &mut [u64]: words) answers 0, viewed),
         depth_of!(kpalumere_version(&[u8]: binary, &mut [u64]: words) answers 0, "a header"),
         depth_of!(kpalumere_entry_version(&[u8]: image, u32: 2, u64: 511, &mut [u64]: words) answers Refusal::SIGNATURE, given),

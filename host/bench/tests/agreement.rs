@@ -9,17 +9,19 @@ use bench::programs::{list_by_entry, Library, Listed, MailboxCalls, Plain, Progr
 use bench::samples;
 use bench::samples::LEAD;
 use bindings::{
-    Answer, AsptStructure, AsptTable, Directory, Entered, EntryRow, Guid, NewEntry, Place, Post,
-    Refusal, Register,
+    Answer, AsptStructure, AsptTable, CallerPlace, Directory, Entered, EntryRow, Guid, NewEntry,
+    Place, Post, Refusal, Register,
 };
 use std::collections::BTreeSet;
 use std::fmt::Debug;
 
-/// A test's random numbers, and the numbers of the refusals that it has met.
+/// A test's random numbers, the numbers of the refusals that it has met, and which of them in a header and which in an entry.
 struct Trial {
     random: Random,
     seed: u64,
     met: BTreeSet<u64>,
+    in_headers: BTreeSet<u64>,
+    in_entries: BTreeSet<u64>,
 }
 
 impl Trial {
@@ -34,6 +36,8 @@ impl Trial {
             random: Random::from_seed(seed),
             seed,
             met: BTreeSet::new(),
+            in_headers: BTreeSet::new(),
+            in_entries: BTreeSet::new(),
         }
     }
 
@@ -51,12 +55,26 @@ impl Trial {
             .as_ref()
             .map_or_else(|refused| refused.number, |_| 0);
         self.met.insert(number);
+        let place = answers[0].as_ref().err().and_then(|refused| refused.place);
+        match place.map(|place| place.index) {
+            Some(None) => self.in_headers.insert(number),
+            Some(Some(_)) => self.in_entries.insert(number),
+            None => false,
+        };
     }
 
     /// Holds these numbers, and no other, to have been met.
     fn met_exactly(&self, numbers: &[u64]) {
         let expected: BTreeSet<u64> = numbers.iter().copied().collect();
         assert_eq!(self.met, expected, "the numbers met, seed {}", self.seed);
+    }
+
+    /// Holds these numbers, and no other, to have been met in headers, and these in entries.
+    fn met_in(&self, headers: &[u64], entries: &[u64]) {
+        for (met, numbers) in [(&self.in_headers, headers), (&self.in_entries, entries)] {
+            let expected: BTreeSet<u64> = numbers.iter().copied().collect();
+            assert_eq!(*met, expected, "the places met, seed {}", self.seed);
+        }
     }
 
     fn once_in(&mut self, times: u64) -> bool {
@@ -280,16 +298,34 @@ fn flash_images_are_read_the_same() {
         }
     }
     trial.met_exactly(&[0, 1, 2, 3, 4, 5, 7, 8, 9, 14, 15, 16, 17, 18]);
+    trial.met_in(&[1, 2, 3, 4, 5], &[5, 7, 14, 16, 17, 18]);
 }
 
-/// Holds the three programs to refuse level one of an image with a number. A lookup in the image is refused with it as well.
+/// The refusal that is met in an entry of the directory of a level.
+fn met_in_entry(number: u64, level: u64, index: usize) -> Refusal {
+    let directory = match level {
+        1 => samples::LEVEL_ONE,
+        _ => samples::LEVEL_TWO,
+    };
+    let place = Place {
+        level,
+        index: Some(index as u64),
+        directory: directory as u64,
+    };
+    Refusal {
+        place: Some(place),
+        ..Refusal::alone(number)
+    }
+}
+
+/// Holds the three programs to refuse level one of an image for an entry. A lookup in the image is refused for it as well.
 #[track_caller]
-fn all_refuse(image: &[u8], number: u64) {
+fn all_refuse(image: &[u8], number: u64, index: usize) {
     let directories = three!(directory(image, 1)).map(|answer| answer.map(|found| found.total));
     let lookups = three!(find_image(image, samples::MISSING, 0))
         .map(|answer| answer.map(|found| found.tested));
     for answer in directories.into_iter().chain(lookups) {
-        assert_eq!(answer, Err(Refusal::alone(number)));
+        assert_eq!(answer, Err(met_in_entry(number, 1, index)));
     }
 }
 
@@ -323,19 +359,19 @@ fn a_repeated_entry_is_refused_in_directories_of_every_size() {
             let mut entries = good.clone();
             repeat(&mut entries, earlier, later);
             let bytes = samples::directory_bytes(b"$PSP", &entries);
-            all_refuse(&image_of(&bytes), Refusal::REPEATED);
+            all_refuse(&image_of(&bytes), Refusal::REPEATED, later);
             // The entry that repeats counts, not the one that it repeats: 5 comes first up to there, and 18 before the 5 of a later
             // one.
             let near = [0, earlier, later - 1, later, later + 1, last];
             for faulty in near.into_iter().filter(|index| *index < amount) {
                 let mut bytes = bytes.clone();
                 set_reserved(&mut bytes, faulty);
-                let first = if faulty <= later {
-                    Refusal::FIELD
+                let (number, first) = if faulty <= later {
+                    (Refusal::FIELD, faulty)
                 } else {
-                    Refusal::REPEATED
+                    (Refusal::REPEATED, later)
                 };
-                all_refuse(&image_of(&bytes), first);
+                all_refuse(&image_of(&bytes), number, first);
             }
         }
     }
@@ -381,11 +417,11 @@ fn the_two_levels_may_share_a_type_and_subprogram() {
 #[test]
 fn misplaced_entries_are_told_before_repeated_ones() {
     // In level two an entry that leads is misplaced where it stands, whether it repeats or not.
-    for (pairs, number) in [
-        ([LEAD, LEAD, 1, 2], Refusal::MISPLACED),
-        ([1, 2, 1, LEAD], Refusal::REPEATED),
-        ([1, 2, LEAD, 1], Refusal::MISPLACED),
-        ([1, 2, 3, 3], Refusal::REPEATED),
+    for (pairs, number, index) in [
+        ([LEAD, LEAD, 1, 2], Refusal::MISPLACED, 0),
+        ([1, 2, 1, LEAD], Refusal::REPEATED, 2),
+        ([1, 2, LEAD, 1], Refusal::MISPLACED, 2),
+        ([1, 2, 3, 3], Refusal::REPEATED, 3),
     ] {
         let mut two = samples::mixed_entries(4, 1);
         for (entry, class) in two.iter_mut().zip(pairs) {
@@ -393,7 +429,8 @@ fn misplaced_entries_are_told_before_repeated_ones() {
         }
         let image = samples::image(samples::SHORTEST, &[samples::lead()], &two);
         for answer in three!(directory(&image, 2)) {
-            assert_eq!(answer, Err(Refusal::alone(number)), "types {pairs:?}");
+            let no = met_in_entry(number, 2, index);
+            assert_eq!(answer, Err(no), "types {pairs:?}");
         }
     }
 }
@@ -509,7 +546,9 @@ fn all_entries_and_all_directories_are_told_the_same() {
         at_places.same("all entries", entries);
     }
     trial.met_exactly(&[0, 1, 2, 3, 4, 5, 7, 8, 14, 15, 16, 18]);
+    trial.met_in(&[1, 2, 3, 4, 5], &[5, 7, 14, 16, 18]);
     at_places.met_exactly(&[0, 1, 2, 3, 4, 5, 7, 14, 15, 18]);
+    at_places.met_in(&[1, 2, 3, 4, 5], &[5, 14, 18]);
 }
 
 #[test]
@@ -575,6 +614,12 @@ fn directories_are_written_the_same() {
                 trial.damage(&mut damaged[..reach]);
                 if trial.once_in(2) && damaged.len() > 16 && damaged[8] < 3 {
                     let end = damaged.len().min(16 + 16 * usize::from(damaged[8]));
+                    // A lead that may be misplaced, and an entry that repeats the one before it.
+                    match (trial.below(4), end) {
+                        (0, 32..) => damaged[16] = LEAD,
+                        (1, 48..) => damaged.copy_within(16..18, 32),
+                        _ => (),
+                    }
                     samples::sum_again(&mut damaged[..end]);
                 }
                 buffers = [(); 3].map(|()| damaged.clone());
@@ -598,6 +643,7 @@ fn directories_are_written_the_same() {
         }
     }
     trial.met_exactly(&[0, 1, 2, 3, 4, 5, 9, 12, 14, 18]);
+    trial.met_in(&[1, 2, 3, 4, 5], &[5, 14, 18]);
 }
 
 // ---- the ASPT
@@ -752,10 +798,10 @@ fn random_mailboxes(trial: &mut Trial) -> Mailboxes {
         callers.swap(i, trial.below(i + 1));
     }
     let in_line = trial.below(5);
-    let mut places = [Place::Free; 8];
+    let mut places = [CallerPlace::Free; 8];
     let mut line: Vec<Post> = Vec::new();
     for caller in &callers[..in_line] {
-        places[*caller as usize] = Place::Waiting;
+        places[*caller as usize] = CallerPlace::Waiting;
         line.push(Post {
             caller: *caller,
             command: 0x80 + trial.below(8) as u16,
@@ -775,10 +821,10 @@ fn random_mailboxes(trial: &mut Trial) -> Mailboxes {
         },
     };
     if register != Register::Idle {
-        places[caller as usize] = Place::Waiting;
+        places[caller as usize] = CallerPlace::Waiting;
     }
     if trial.once_in(2) {
-        places[callers[7] as usize] = Place::Ready(data);
+        places[callers[7] as usize] = CallerPlace::Ready(data);
     }
     let register = damage_mailbox(trial, &mut line, register, &mut places);
     Mailboxes(
@@ -793,7 +839,7 @@ fn damage_mailbox(
     trial: &mut Trial,
     line: &mut [Post],
     register: Register,
-    places: &mut [Place; 8],
+    places: &mut [CallerPlace; 8],
 ) -> Register {
     let stray = trial.one_of(&[0, 7, 8, 255]);
     match (trial.below(12), line.first_mut(), register) {
@@ -817,7 +863,11 @@ fn damage_mailbox(
         }
         (5, _, _) => {
             let place = trial.below(8);
-            places[place] = trial.one_of(&[Place::Free, Place::Waiting, Place::Ready(1)]);
+            places[place] = trial.one_of(&[
+                CallerPlace::Free,
+                CallerPlace::Waiting,
+                CallerPlace::Ready(1),
+            ]);
         }
         _ => (),
     }

@@ -1,6 +1,6 @@
 //! All of a kind at once: every entry of the directory that a view holds, and every directory of an image.
 
-use crate::answer::{answer_of, done_by, Answer, Refusal};
+use crate::answer::{answer_of, done_by, Answer, Refusal, PLACE_WORDS};
 use crate::exported::exported;
 use crate::flash::{Directory, Entry, Part};
 
@@ -13,11 +13,11 @@ exported! {
 pub(crate) const MOST_ENTRIES: usize = 512;
 
 /// Words in which a directory tells itself, and those of each entry behind them.
-pub(crate) const DIRECTORY_WORDS: usize = 3;
+pub(crate) const HEAD_WORDS: usize = 3;
 pub(crate) const ROW_WORDS: usize = 8;
 
 /// Words for all entries of a directory, whichever it is.
-pub(crate) const WORDS_FOR_ENTRIES: usize = DIRECTORY_WORDS + ROW_WORDS * MOST_ENTRIES;
+pub(crate) const WORDS_FOR_ENTRIES: usize = HEAD_WORDS + ROW_WORDS * MOST_ENTRIES;
 
 /// The most directories that an image has: level one, and one of level two for each entry of type 0x40, of which no two have the
 /// same subprogram.
@@ -59,7 +59,7 @@ pub struct Entries<'a> {
     rows: &'a [u64],
 }
 
-/// An entry, and where its bytes lie.
+/// An entry, and where its bytes lie, or the number for which they do not: the row tells which entry it is.
 #[derive(Clone, Copy, Debug, PartialEq, Eq)]
 pub struct EntryRow {
     pub entry: Entry,
@@ -98,8 +98,13 @@ impl Entries<'_> {
 /// Every entry of the directory that a view holds, which is checked once.
 #[inline]
 pub fn view_entries<'a>(image: &[u8], place: usize, words: &'a mut Words) -> Answer<Entries<'a>> {
-    done_by(kpalumere_view_entries(image, place, &mut words.0))?;
-    let (head, rows) = words.0.split_at(DIRECTORY_WORDS);
+    // What a call before left there is no place of this one's refusal.
+    words.0[..PLACE_WORDS].fill(0);
+    match kpalumere_view_entries(image, place, &mut words.0) {
+        0 => (),
+        number => return Err(Refusal::of_words(number, &words.0)),
+    }
+    let (head, rows) = words.0.split_at(HEAD_WORDS);
     let directory = Directory {
         place: head[0],
         level: head[1],
@@ -163,8 +168,8 @@ fn directories_in<const ROOM: usize>(image: &[u8]) -> Answer<Vec<Entered>> {
 mod tests {
     use super::*;
     use crate::sample::{
-        board, board_of, board_that_repeats, directory_bytes, entry_bytes, LENGTH, LEVEL_ONE,
-        LEVEL_TWO,
+        board, board_of, board_that_repeats, directory_bytes, entry_bytes, met_in_entry,
+        met_in_header, LENGTH, LEVEL_ONE, LEVEL_TWO,
     };
     use crate::{directory, view_entry, view_part};
 
@@ -234,7 +239,9 @@ mod tests {
             assert_eq!(entries.rows().len(), total);
             for (index, row) in entries.rows().enumerate() {
                 assert_eq!(Ok(row.entry), view_entry(&image, place, index), "{index}");
-                assert_eq!(row.part, view_part(&image, place, index), "{index}");
+                // A row tells by itself which entry it is.
+                let part = view_part(&image, place, index).map_err(|no| Refusal::alone(no.number));
+                assert_eq!(row.part, part, "{index}");
             }
         }
     }
@@ -301,6 +308,24 @@ mod tests {
     }
 
     #[test]
+    fn a_directory_that_is_refused_tells_where_and_words_of_before_do_not() {
+        let mut words = Words::new();
+        // Words that would tell a place, if they were a refusal's.
+        for first in [1, 2] {
+            words.0[..PLACE_WORDS].copy_from_slice(&[first, 1, 2, 3]);
+            let answer = view_entries(&board(), LENGTH + 1, &mut words);
+            assert_eq!(answer, Err(Refusal::alone(Refusal::OUTSIDE)));
+        }
+        let mut image = board_that_repeats(2);
+        let no = met_in_entry(Refusal::REPEATED, 2, 2);
+        let two = LEVEL_TWO as usize;
+        assert_eq!(view_entries(&image, two, &mut words), Err(no));
+        image[two + 4] ^= 1;
+        let no = met_in_header(Refusal::CHECKSUM, 2);
+        assert_eq!(view_entries(&image, two, &mut words), Err(no));
+    }
+
+    #[test]
     fn without_room_for_the_words_the_answer_is_12_and_none_is_written() {
         let (image, place) = (board(), LEVEL_ONE as usize);
         let mut words = [7; 27];
@@ -311,6 +336,21 @@ mod tests {
         assert_eq!(words, [7; 27]);
         assert_eq!(kpalumere_view_entries(&image, place, &mut words), 0);
         assert_ne!(words[26], 7);
+        // The place of a refusal takes four.
+        let repeats = board_that_repeats(1);
+        let mut words = [7; 5];
+        assert_eq!(kpalumere_view_entries(&repeats, place, &mut words[..3]), 12);
+        assert_eq!(kpalumere_directories(&repeats, &mut words[..3]), 12);
+        assert_eq!(words, [7; 5]);
+        assert_eq!(kpalumere_view_entries(&repeats, place, &mut words[..4]), 18);
+        assert_eq!(words, [2, 1, 3, LEVEL_ONE, 7]);
+        words = [7; 5];
+        assert_eq!(kpalumere_directories(&repeats, &mut words[..4]), 18);
+        assert_eq!(words, [2, 1, 3, LEVEL_ONE, 7]);
+        words = [7; 5];
+        assert_eq!(kpalumere_view_entries(&image, LENGTH + 1, &mut words), 7);
+        assert_eq!(kpalumere_directories(&[], &mut words), 15);
+        assert_eq!(words, [7; 5]);
     }
 
     #[test]
@@ -364,9 +404,9 @@ mod tests {
     fn the_first_fault_refuses_all_directories() {
         assert_eq!(directories(&[]), Err(Refusal::alone(Refusal::IMAGE)));
         assert_eq!(directories(&[0]), Err(Refusal::alone(Refusal::SIGNATURE)));
-        for level in [1, 2] {
+        for (level, index) in [(1, 3), (2, 2)] {
             let repeats = board_that_repeats(level);
-            let no = Refusal::alone(Refusal::REPEATED);
+            let no = met_in_entry(Refusal::REPEATED, u64::from(level), index);
             assert_eq!(directories(&repeats), Err(no), "{level}");
         }
         // A later lead, behind two that are good.
@@ -374,9 +414,11 @@ mod tests {
         image[LEVEL_TWO_AGAIN as usize + 4] ^= 1;
         let mut words = [7; 17];
         assert_eq!(kpalumere_directories(&image, &mut words), 4);
-        assert_eq!(words, [7; 17]);
+        assert_eq!(words[..4], [1, 2, 0, LEVEL_TWO_AGAIN]);
+        assert_eq!(words[4..], [7; 13]);
         // Both leads are faulty: the first of them tells.
         image[LEVEL_TWO as usize] ^= 1;
         assert_eq!(kpalumere_directories(&image, &mut words), 2);
+        assert_eq!(words[..4], [1, 2, 0, LEVEL_TWO]);
     }
 }

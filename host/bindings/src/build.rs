@@ -39,14 +39,15 @@ pub fn extend(buffer: &mut [u8], entry: &NewEntry) -> Answer<u64> {
     } = *entry;
     answer_of(
         |words| kpalumere_extend(buffer, class, subprogram, size, location, mode, words),
-        |&[total]| total,
+        |&[total, _, _, _]| total,
     )
 }
 
 #[cfg(test)]
 mod tests {
     use super::*;
-    use crate::answer::Refusal;
+    use crate::answer::{Place, Refusal};
+    use crate::sample::{directory_bytes, entry_bytes};
 
     /// The entry of value M2.
     const M2: NewEntry = NewEntry {
@@ -94,8 +95,11 @@ mod tests {
         let kept = buffer;
         assert_eq!(start(&mut buffer, 3), Err(Refusal::alone(9)));
         assert_eq!(start(&mut buffer[..15], 1), Err(Refusal::alone(12)));
-        assert_eq!(extend(&mut buffer, &M2), Err(Refusal::alone(2)));
-        assert_eq!(extend(&mut buffer[..0], &M2), Err(Refusal::alone(1)));
+        // No cookie tells the level of what is there.
+        assert_eq!(extend(&mut buffer, &M2), Err(met(2, 0, None)));
+        for few in [0, 15] {
+            assert_eq!(extend(&mut buffer[..few], &M2), Err(met(1, 0, None)));
+        }
         assert_eq!(buffer, kept);
         assert_eq!(start(&mut buffer, 2), Ok(()));
         let kept = buffer;
@@ -110,6 +114,50 @@ mod tests {
         assert_eq!(extend(&mut buffer, &misplaced), Err(Refusal::alone(14)));
         assert_eq!(extend(&mut buffer, &M2), Err(Refusal::alone(12)));
         assert_eq!(buffer, kept);
+    }
+
+    /// The refusal of a directory at the buffer's start.
+    fn met(number: u64, level: u64, index: Option<u64>) -> Refusal {
+        let directory = 0;
+        let place = Some(Place {
+            level,
+            index,
+            directory,
+        });
+        Refusal {
+            place,
+            ..Refusal::alone(number)
+        }
+    }
+
+    #[test]
+    fn what_is_wrong_in_the_directory_there_tells_where_and_in_the_new_entry_does_not() {
+        let good = entry_bytes(2, 0, 0, 0, 1);
+        let mut flags = entry_bytes(3, 0, 0, 0, 1);
+        flags[2] = 1;
+        for (level, cookie) in [(1, b"$PSP"), (2, b"$PL2")] {
+            let of = |entries: &[&Vec<u8>]| {
+                let entries: Vec<Vec<u8>> = entries.iter().map(|one| one.to_vec()).collect();
+                directory_bytes(cookie, &entries)
+            };
+            let refused = |mut buffer: Vec<u8>, no: Refusal| {
+                let kept = buffer.clone();
+                assert_eq!(extend(&mut buffer, &M2), Err(no));
+                assert_eq!(buffer, kept);
+            };
+            refused(of(&[&good, &flags]), met(5, level, Some(1)));
+            refused(of(&[&flags]), met(5, level, Some(0)));
+            refused(of(&[&good, &good]), met(18, level, Some(1)));
+            refused(of(&[&good])[..31].to_vec(), met(1, level, None));
+            let mut damaged = of(&[&good]);
+            damaged[4] ^= 1;
+            refused(damaged, met(4, level, None));
+            // A good directory without room for one entry more.
+            refused(of(&[&good]), Refusal::alone(12));
+        }
+        let lead = entry_bytes(0x40, 0, 0, 0, 1);
+        let mut buffer = directory_bytes(b"$PL2", &[good, lead]);
+        assert_eq!(extend(&mut buffer, &M2), Err(met(14, 2, Some(1))));
     }
 
     #[test]
@@ -153,5 +201,19 @@ mod tests {
         let answer = kpalumere_extend(&mut buffer, 1, 0, 0x100, 0x1000, 1, &mut []);
         assert_eq!(answer, 12);
         assert_eq!(buffer, kept);
+        // A place takes four.
+        let mut words = [7; 5];
+        let mut unlike = [0x11; 32];
+        for count in 0..4 {
+            let lent = &mut words[..count];
+            let answer = kpalumere_extend(&mut unlike, 1, 0, 0x100, 0x1000, 1, lent);
+            assert_eq!(answer, 12, "{count} words");
+        }
+        assert_eq!(words, [7; 5]);
+        let answer = kpalumere_extend(&mut unlike, 1, 0, 0x100, 0x1000, 1, &mut words);
+        assert_eq!((answer, words), (2, [1, 0, 0, 0, 7]));
+        // What is wrong in the new entry is told by its number alone.
+        let answer = kpalumere_extend(&mut buffer, 1, 0, 0x100, 0x1000, 4, &mut []);
+        assert_eq!((answer, buffer), (5, kept));
     }
 }

@@ -55,7 +55,7 @@ pub(crate) use tests::calls_of_header;
 
 #[cfg(test)]
 mod tests {
-    use crate::{all, aspt, build, checksum, flash, guids, mailbox, version, view};
+    use crate::{all, aspt, build, checksum, flash, guids, mailbox, version, view, wrong};
     use std::collections::BTreeMap;
     use std::fs;
     use std::path::Path;
@@ -74,6 +74,7 @@ mod tests {
             mailbox::EXPORTED,
             version::EXPORTED,
             view::EXPORTED,
+            wrong::EXPORTED,
         ];
         let calls = every.iter().copied().flatten();
         calls

@@ -1,6 +1,6 @@
 //! The flash image: its EFS and directory pointer, its directories of both levels, their entries, where their bytes lie, and the two lookups.
 
-use crate::answer::{answer_of, lookup_of, Answer};
+use crate::answer::{answer_of, lookup_of, Answer, PLACE_WORDS};
 use crate::exported::exported;
 
 exported! {
@@ -91,10 +91,10 @@ pub struct Part {
 }
 
 impl Part {
-    /// The part that these words tell.
+    /// The part that the first of these words tell. So many are lent for a refusal.
     #[inline]
-    pub(crate) fn of_words(words: &[u64; 2]) -> Part {
-        let [place, length] = *words;
+    pub(crate) fn of_words(words: &[u64; PLACE_WORDS]) -> Part {
+        let [place, length, _, _] = *words;
         Part { place, length }
     }
 }
@@ -145,7 +145,7 @@ pub fn pointer(image: &[u8]) -> Answer<Pointer> {
 pub fn directory(image: &[u8], level: u32) -> Answer<Directory> {
     answer_of(
         |words| kpalumere_directory(image, level, words),
-        |&[place, level, total]| Directory {
+        |&[place, level, total, _]| Directory {
             place,
             level,
             total,
@@ -191,7 +191,7 @@ pub fn part(image: &[u8], level: u32, index: usize) -> Answer<Part> {
 pub fn find(image: &[u8], level: u32, class: u8, subprogram: u8) -> Answer<Match> {
     lookup_of(
         |words| kpalumere_find(image, level, class, subprogram, words),
-        |&[index, tested]| Match { index, tested },
+        |&[index, tested, _, _]| Match { index, tested },
     )
 }
 
@@ -212,8 +212,11 @@ pub fn find_image(image: &[u8], class: u8, subprogram: u8) -> Answer<ImageMatch>
 #[cfg(test)]
 mod tests {
     use super::*;
-    use crate::answer::Refusal;
-    use crate::sample::{board, board_that_repeats, EFS, LENGTH, LEVEL_ONE, LEVEL_TWO, WINDOW};
+    use crate::answer::{Place, Refusal};
+    use crate::sample::{
+        board, board_of, board_that_repeats, directory_bytes, entry_bytes, met_in_entry,
+        met_in_header, EFS, LENGTH, LEVEL_ONE, LEVEL_TWO, WINDOW,
+    };
 
     /// The sample board with other pointers in its EFS.
     fn board_with(early: u32, late: u32) -> Vec<u8> {
@@ -308,7 +311,7 @@ mod tests {
 
     #[test]
     fn a_directory_that_repeats_a_type_and_subprogram_is_refused() {
-        let no = Refusal::alone(18);
+        let no = met_in_entry(18, 1, 3);
         let image = board_that_repeats(1);
         assert_eq!(directory(&image, 1), Err(no));
         // Level two is reached through level one.
@@ -317,6 +320,7 @@ mod tests {
         assert_eq!(part(&image, 1, 0), Err(no));
         assert_eq!(find(&image, 1, 0x12, 0x34), Err(no));
         assert_eq!(find_image(&image, 0x12, 0x34), Err(no));
+        let no = met_in_entry(18, 2, 2);
         let image = board_that_repeats(2);
         assert_eq!(directory(&image, 1), directory(&board(), 1));
         assert_eq!(directory(&image, 2), Err(no));
@@ -326,11 +330,6 @@ mod tests {
             find_image(&board(), 0x12, 0x34)
         );
         assert_eq!(find_image(&image, 0x01, 0), Err(no));
-        // What is refused leaves the words as they were.
-        let mut words = [7; 5];
-        assert_eq!(kpalumere_find_image(&image, 0x01, 0, &mut words), 18);
-        assert_eq!(kpalumere_directory(&image, 2, &mut words), 18);
-        assert_eq!(words, [7; 5]);
     }
 
     #[test]
@@ -344,7 +343,7 @@ mod tests {
         };
         assert_eq!(repeated(&image, 1), Ok(in_one));
         // Level two is not reached.
-        assert_eq!(repeated(&image, 2), Err(Refusal::alone(18)));
+        assert_eq!(repeated(&image, 2), Err(met_in_entry(18, 1, 3)));
         let image = board_that_repeats(2);
         let in_two = Repeat {
             index: 2,
@@ -369,7 +368,7 @@ mod tests {
         // Every other refusal is that of the directory.
         let mut damaged = board_that_repeats(1);
         damaged[LEVEL_ONE as usize + 4] ^= 1;
-        assert_eq!(repeated(&damaged, 1), Err(Refusal::alone(4)));
+        assert_eq!(repeated(&damaged, 1), Err(met_in_header(4, 1)));
         assert_eq!(repeated(&board_that_repeats(1), 0), Err(Refusal::alone(9)));
         assert_eq!(repeated(&board_that_repeats(1), 3), Err(Refusal::alone(9)));
         assert_eq!(repeated(&[], 1), Err(Refusal::alone(15)));
@@ -403,7 +402,8 @@ mod tests {
             length: 0x100,
         };
         assert_eq!(part(&board(), 1, 0), Ok(expected));
-        assert_eq!(part(&board(), 2, 1), Err(Refusal::alone(17)));
+        assert_eq!(part(&board(), 1, 2), Err(met_in_entry(16, 1, 2)));
+        assert_eq!(part(&board(), 2, 1), Err(met_in_entry(17, 2, 1)));
     }
 
     #[test]
@@ -454,5 +454,170 @@ mod tests {
         assert_eq!(words, [0x3000, 0x100, 7, 7, 7, 7]);
         assert_eq!(kpalumere_find(&image, 1, 0x99, 0, &mut words), 8);
         assert_eq!(words, [3, 0x100, 7, 7, 7, 7]);
+    }
+
+    /// The directory of a level, an entry, a part and a lookup in it: each is refused like this.
+    fn assert_refused(image: &[u8], level: u32, no: Refusal) {
+        assert_eq!(directory(image, level), Err(no));
+        assert_eq!(entry(image, level, 0), Err(no));
+        assert_eq!(part(image, level, 0), Err(no));
+        assert_eq!(find(image, level, 0x99, 0), Err(no));
+    }
+
+    /// The sample board with these bytes at a place.
+    fn with(place: u64, bytes: &[u8]) -> Vec<u8> {
+        let mut image = board();
+        image[place as usize..][..bytes.len()].copy_from_slice(bytes);
+        image
+    }
+
+    #[test]
+    fn what_is_wrong_in_a_header_tells_its_level() {
+        for (level, place) in [(1, LEVEL_ONE), (2, LEVEL_TWO)] {
+            let refused = |at: u64, bytes: &[u8], number| {
+                let image = with(place + at, bytes);
+                let no = met_in_header(number, level);
+                assert_refused(&image, level as u32, no);
+                assert_eq!(repeated(&image, level as u32), Err(no));
+                assert_eq!(find_image(&image, 0x99, 0), Err(no));
+            };
+            refused(0, b"$BHD", 2);
+            refused(8, &513u32.to_le_bytes(), 3);
+            refused(4, &[0; 4], 4);
+            let cookie = if level == 1 { b"$PSP" } else { b"$PL2" };
+            let mut reserved = directory_bytes(cookie, &[]);
+            reserved[12] = 1;
+            let sum = crate::checksum(&reserved[8..]).expect("any bytes have a checksum");
+            reserved[4..8].copy_from_slice(&(sum as u32).to_le_bytes());
+            refused(0, &reserved, 5);
+        }
+        // The header and the entries of a level one at the image's end.
+        let near_end = |back: usize, bytes: &[u8]| {
+            let place = LENGTH - back;
+            let mut image = board_with(0, place as u32);
+            image[place..].copy_from_slice(&bytes[..back]);
+            image
+        };
+        let entry = entry_bytes(0x12, 0x34, 0x100, 0x3000, 1);
+        let one = directory_bytes(b"$PSP", &[entry]);
+        let short = |back: usize| {
+            let place = Place {
+                level: 1,
+                index: None,
+                directory: (LENGTH - back) as u64,
+            };
+            Refusal {
+                place: Some(place),
+                ..Refusal::alone(1)
+            }
+        };
+        for back in [1, 15, 16, 31] {
+            assert_refused(&near_end(back, &one), 1, short(back));
+        }
+        assert!(directory(&near_end(32, &one), 1).is_ok());
+    }
+
+    #[test]
+    fn what_is_wrong_in_an_entry_tells_its_level_and_index() {
+        let good = |class| entry_bytes(class, 0, 0, 0, 1);
+        let lead = entry_bytes(0x40, 0, 0, LEVEL_TWO, 1);
+        let with_flags = |at: usize| {
+            let mut entry = good(0x33);
+            entry[at] = 0x80;
+            entry
+        };
+        for flags in [with_flags(2), with_flags(3)] {
+            let one = vec![lead.clone(), good(1), flags.clone()];
+            let image = board_of([one, vec![]]);
+            assert_refused(&image, 1, met_in_entry(5, 1, 2));
+            // What stands before level two is told of level one.
+            assert_refused(&image, 2, met_in_entry(5, 1, 2));
+            let image = board_of([vec![lead.clone()], vec![good(1), flags]]);
+            assert_refused(&image, 2, met_in_entry(5, 2, 1));
+        }
+        let image = board_of([vec![lead.clone()], vec![lead.clone()]]);
+        assert_refused(&image, 2, met_in_entry(14, 2, 0));
+        let image = board_of([vec![lead], vec![good(1), good(2), good(2), good(1)]]);
+        assert_refused(&image, 2, met_in_entry(18, 2, 2));
+    }
+
+    #[test]
+    fn what_is_wrong_in_a_location_tells_its_entry() {
+        let two = || vec![entry_bytes(0x01, 0, 0, 0, 1)];
+        let led = |location, mode| {
+            let one = vec![
+                entry_bytes(0x01, 0, 0, LENGTH as u64 + 1, 1),
+                entry_bytes(0x40, 0, 0, location, mode),
+            ];
+            board_of([one, two()])
+        };
+        // It is asked for where its bytes are, and where it leads to level two.
+        let outside = led(LENGTH as u64 + 1, 1);
+        assert_eq!(part(&outside, 1, 0), Err(met_in_entry(7, 1, 0)));
+        assert_eq!(part(&outside, 1, 1), Err(met_in_entry(7, 1, 1)));
+        assert!(directory(&outside, 1).is_ok());
+        assert!(entry(&outside, 1, 1).is_ok());
+        assert_refused(&outside, 2, met_in_entry(7, 1, 1));
+        assert_eq!(repeated(&outside, 2), Err(met_in_entry(7, 1, 1)));
+        assert_eq!(find_image(&outside, 0x99, 0), Err(met_in_entry(7, 1, 1)));
+        assert_refused(&led(0, 3), 2, met_in_entry(16, 1, 1));
+        // The image's end is no place beyond it: a directory is looked for there, and cut off.
+        let place = Place {
+            level: 2,
+            index: None,
+            directory: LENGTH as u64,
+        };
+        let short = Refusal {
+            place: Some(place),
+            ..Refusal::alone(1)
+        };
+        assert_refused(&led(LENGTH as u64, 1), 2, short);
+    }
+
+    #[test]
+    fn what_is_met_in_no_directory_tells_no_place() {
+        let image = board();
+        for level in [0, 3] {
+            assert_refused(&image, level, Refusal::alone(9));
+        }
+        assert_refused(&[0], 1, Refusal::alone(2));
+        assert_refused(&board_with(0, LENGTH as u32), 1, Refusal::alone(7));
+        let without_lead = board_of([vec![], vec![]]);
+        assert_eq!(directory(&without_lead, 2), Err(Refusal::alone(8)));
+        let untested = find(&without_lead, 2, 0x99, 0).unwrap_err();
+        assert_eq!(untested.to_string(), "refused 8 tested=0");
+        assert_eq!(entry(&image, 1, 3), Err(Refusal::alone(8)));
+        assert_eq!(part(&image, 1, 3), Err(Refusal::alone(8)));
+    }
+
+    #[test]
+    fn a_place_takes_four_words_and_without_them_the_answer_is_12() {
+        let image = board_that_repeats(1);
+        type Call = fn(&[u8], &mut [u64]) -> u64;
+        let calls: [Call; 6] = [
+            |image, words| kpalumere_directory(image, 1, words),
+            |image, words| kpalumere_repeated(image, 2, words),
+            |image, words| kpalumere_entry(image, 1, 0, words),
+            |image, words| kpalumere_part(image, 1, 0, words),
+            |image, words| kpalumere_find(image, 1, 0x99, 0, words),
+            |image, words| kpalumere_find_image(image, 0x99, 0, words),
+        ];
+        let damaged = with(LEVEL_ONE + 4, &[0; 4]);
+        for (at, call) in calls.into_iter().enumerate() {
+            let mut words = [7; 6];
+            for count in 0..PLACE_WORDS {
+                assert_eq!(call(&image, &mut words[..count]), 12, "{at}, {count} words");
+            }
+            assert_eq!(words, [7; 6], "{at}");
+            assert_eq!(call(&image, &mut words[..4]), 18, "{at}");
+            assert_eq!(words, [2, 1, 3, LEVEL_ONE, 7, 7], "{at}");
+            assert_eq!(call(&damaged, &mut words), 4, "{at}");
+            assert_eq!(words, [1, 1, 0, LEVEL_ONE, 7, 7], "{at}");
+            // What has no place to tell keeps the words, and asks for none.
+            let mut words = [7; 6];
+            assert_eq!(call(&[], &mut words), 15, "{at}");
+            assert_eq!(call(&[], &mut []), 15, "{at}");
+            assert_eq!(words, [7; 6], "{at}");
+        }
     }
 }

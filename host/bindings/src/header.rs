@@ -48,13 +48,14 @@ fn refusals_have_the_names_and_numbers_of_the_library() {
         assert_eq!(names.get(name), Some(number), "{name}");
     }
     assert_eq!(names["ACCEPTED"], 0);
-    // No number has a second name: what is not a refusal's is a count of words, or the version.
+    // No number has a second name: what is not a refusal's is a count of words, what it was met in, or the version.
     let refusals: BTreeSet<&str> = library.keys().copied().chain(["ACCEPTED"]).collect();
     let others = names.keys().filter(|name| !refusals.contains(*name));
     for name in others {
         let known = ["_WORDS", "_VALUES"].iter().any(|end| name.ends_with(end))
-            || name.starts_with("MOST_")
-            || name.starts_with("VERSION_");
+            || ["MET_", "MOST_", "VERSION_"]
+                .iter()
+                .any(|start| name.starts_with(start));
         assert!(known, "{name}");
     }
 }
@@ -71,7 +72,14 @@ fn every_call_that_is_lent_words_has_their_count_by_name() {
         })
         .map(|(call, _)| call["kpalumere_".len()..].to_uppercase() + "_WORDS")
         .collect();
-    calls.extend(["ROW_WORDS", "ENTERED_WORDS", "MAILBOX_WORDS"].map(String::from));
+    let others = [
+        "PLACE_WORDS",
+        "HEAD_WORDS",
+        "ROW_WORDS",
+        "ENTERED_WORDS",
+        "MAILBOX_WORDS",
+    ];
+    calls.extend(others.map(String::from));
     let counts = names.keys().filter(|name| name.ends_with("_WORDS"));
     assert_eq!(
         counts.map(|name| name.to_string()).collect::<BTreeSet<_>>(),
@@ -79,11 +87,40 @@ fn every_call_that_is_lent_words_has_their_count_by_name() {
     );
 }
 
+/// With fewer a call on a directory may be refused for want of words, though it gives fewer.
+#[test]
+fn every_call_on_a_directory_is_lent_words_for_a_place() {
+    let names = names();
+    let calls = [
+        "DIRECTORY",
+        "DIRECTORIES",
+        "REPEATED",
+        "ENTRY",
+        "PART",
+        "FIND",
+        "FIND_IMAGE",
+        "VIEW",
+        "VIEW_ENTRY",
+        "VIEW_PART",
+        "VIEW_ENTRIES",
+        "ENTRY_VERSION",
+        "VIEW_VERSION",
+        "EXTEND",
+    ];
+    for call in calls {
+        let count = names[&*format!("{call}_WORDS")];
+        assert!(count >= answer::PLACE_WORDS as u64, "{call}");
+    }
+}
+
 #[test]
 fn counts_are_those_of_the_bindings() {
     let names = names();
     let of_bindings = [
-        ("DIRECTORY_WORDS", all::DIRECTORY_WORDS),
+        ("PLACE_WORDS", answer::PLACE_WORDS),
+        ("MET_HEADER", answer::MET_HEADER as usize),
+        ("MET_ENTRY", answer::MET_ENTRY as usize),
+        ("HEAD_WORDS", all::HEAD_WORDS),
         ("MOST_ENTRIES", all::MOST_ENTRIES),
         ("ROW_WORDS", all::ROW_WORDS),
         ("VIEW_ENTRIES_WORDS", all::WORDS_FOR_ENTRIES),

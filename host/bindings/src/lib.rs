@@ -25,9 +25,10 @@ mod mailbox;
 mod sample;
 mod version;
 mod view;
+mod wrong;
 
 pub use all::{directories, view_entries, Entered, Entries, EntryRow, Words};
-pub use answer::{Answer, Refusal};
+pub use answer::{Answer, Place, Refusal};
 pub use aspt::{aspt_read, aspt_write, AsptStructure, AsptTable};
 pub use build::{extend, start, NewEntry};
 pub use checksum::checksum;
@@ -38,6 +39,7 @@ pub use flash::{
 pub use guids::{
     guid_entry, guid_extend, guid_find, guid_start, guids, Guid, GuidEntry, GuidMatch, GuidTable,
 };
-pub use mailbox::{Firmware, Interrupt, Mailbox, Place, Post, Register};
+pub use mailbox::{CallerPlace, Firmware, Interrupt, Mailbox, Post, Register};
 pub use version::{entry_version, version, view_version};
 pub use view::{view, view_entry, view_part};
+pub use wrong::{wrong, Wrong};

@@ -59,7 +59,7 @@ pub enum Register {
 
 /// A caller's place.
 #[derive(Clone, Copy, Debug, PartialEq, Eq)]
-pub enum Place {
+pub enum CallerPlace {
     Free,
     /// The caller's post is in the line or in the register.
     Waiting,
@@ -98,7 +98,7 @@ impl Mailbox {
     }
 
     /// The mailbox described, before fresh firmware. It need not keep the rules; the line has at most eight posts.
-    pub fn of(line: &[Post], register: Register, places: [Place; 8]) -> Mailbox {
+    pub fn of(line: &[Post], register: Register, places: [CallerPlace; 8]) -> Mailbox {
         assert!(line.len() <= LINE.len(), "a line has at most eight posts");
         let mut mailbox = Mailbox::fresh();
         let words = &mut mailbox.words;
@@ -183,11 +183,11 @@ fn post_word(post: &Post) -> u64 {
     u64::from(post.caller) << 32 | u64::from(post.command) << 16 | u64::from(post.data)
 }
 
-fn place_word(place: Place) -> u64 {
+fn place_word(place: CallerPlace) -> u64 {
     match place {
-        Place::Free => 0,
-        Place::Waiting => 1 << 32,
-        Place::Ready(word) => 2 << 32 | u64::from(word),
+        CallerPlace::Free => 0,
+        CallerPlace::Waiting => 1 << 32,
+        CallerPlace::Ready(word) => 2 << 32 | u64::from(word),
     }
 }
 
@@ -306,9 +306,9 @@ mod tests {
             command,
             data: 0xABCD,
         };
-        let mut places = [Place::Free; 8];
+        let mut places = [CallerPlace::Free; 8];
         for caller in [0, 3, 7] {
-            places[caller] = Place::Waiting;
+            places[caller] = CallerPlace::Waiting;
         }
         let line = [post(7, 0x3FF), post(0, 0x81)];
         let command = Register::Command {
@@ -326,7 +326,7 @@ mod tests {
         described.words[INTERFACE] = off;
         assert_eq!(described, posted);
         assert_eq!(posted.unload(), Ok(true));
-        places[3] = Place::Ready(0x8080_ABCD);
+        places[3] = CallerPlace::Ready(0x8080_ABCD);
         let mut described = Mailbox::of(&line, Register::Idle, places);
         described.words[INTERFACE] = off;
         assert_eq!(described, posted);
@@ -339,7 +339,7 @@ mod tests {
             command: 0,
             data: 0,
         };
-        let mut broken = Mailbox::of(&[stray], Register::Idle, [Place::Free; 8]);
+        let mut broken = Mailbox::of(&[stray], Register::Idle, [CallerPlace::Free; 8]);
         let kept = broken.clone();
         let refused = Refusal::alone(5);
         assert_eq!(broken.post(0, 0, 0), Err(refused));
@@ -357,11 +357,11 @@ mod tests {
             command: 0x81,
             data: 0,
         };
-        let mut waits = [Place::Free; 8];
-        waits[2] = Place::Waiting;
+        let mut waits = [CallerPlace::Free; 8];
+        waits[2] = CallerPlace::Waiting;
         let whole = Mailbox::of(&[post], Register::Idle, waits);
         let mark_alone = Mailbox::of(&[], Register::Idle, waits);
-        let post_alone = Mailbox::of(&[post], Register::Idle, [Place::Free; 8]);
+        let post_alone = Mailbox::of(&[post], Register::Idle, [CallerPlace::Free; 8]);
         let mut nine = whole.clone();
         nine.words[COUNT] = 9;
         for mut broken in [mark_alone, post_alone, nine] {
@@ -388,7 +388,7 @@ mod tests {
 
     #[test]
     fn words_that_are_no_mailbox_and_missing_room_change_nothing() {
-        let mut words = Mailbox::of(&[], Register::Idle, [Place::Ready(3); 8]).words;
+        let mut words = Mailbox::of(&[], Register::Idle, [CallerPlace::Ready(3); 8]).words;
         let kept = words;
         let missing = &mut words[..ALL - 1];
         assert_eq!(kpalumere_take(missing, &mut [0], 0), 5);

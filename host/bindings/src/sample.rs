@@ -1,5 +1,6 @@
 //! A small flash image for tests: an EFS, and a directory of each level.
 
+use crate::answer::{Place, Refusal};
 use crate::checksum::checksum;
 
 /// The image's length, and the physical address of its first byte: its last is the last below 4 GiB.
@@ -12,6 +13,28 @@ pub const EFS: usize = 0x2_0000;
 /// Where the directories begin.
 pub const LEVEL_ONE: u64 = 0x1000;
 pub const LEVEL_TWO: u64 = 0x2000;
+
+/// The refusal that is met in the header of the sample's directory of a level, and in an entry of it.
+pub fn met_in_header(number: u64, level: u64) -> Refusal {
+    met(number, level, None)
+}
+
+pub fn met_in_entry(number: u64, level: u64, index: u64) -> Refusal {
+    met(number, level, Some(index))
+}
+
+fn met(number: u64, level: u64, index: Option<u64>) -> Refusal {
+    let directory = if level == 1 { LEVEL_ONE } else { LEVEL_TWO };
+    let place = Some(Place {
+        level,
+        index,
+        directory,
+    });
+    Refusal {
+        place,
+        ..Refusal::alone(number)
+    }
+}
 
 /// An entry's sixteen bytes.
 pub fn entry_bytes(class: u8, subprogram: u8, size: u32, location: u64, mode: u64) -> Vec<u8> {

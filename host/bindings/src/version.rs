@@ -24,7 +24,7 @@ pub fn version(bytes: &[u8]) -> Answer<u64> {
 pub fn entry_version(image: &[u8], level: u32, index: usize) -> Answer<u64> {
     answer_of(
         |words| kpalumere_entry_version(image, level, index as u64, words),
-        |&[version]| version,
+        |&[version, _, _, _]| version,
     )
 }
 
@@ -33,7 +33,7 @@ pub fn entry_version(image: &[u8], level: u32, index: usize) -> Answer<u64> {
 pub fn view_version(image: &[u8], place: usize, index: usize) -> Answer<u64> {
     answer_of(
         |words| kpalumere_view_version(image, place, index, words),
-        |&[version]| version,
+        |&[version, _, _, _]| version,
     )
 }
 
@@ -41,7 +41,7 @@ pub fn view_version(image: &[u8], place: usize, index: usize) -> Answer<u64> {
 mod tests {
     use super::*;
     use crate::answer::Refusal;
-    use crate::sample::{board, LEVEL_ONE, LEVEL_TWO};
+    use crate::sample::{board, met_in_entry, LEVEL_ONE, LEVEL_TWO};
     use crate::{part, view_part};
 
     /// A binary of so many bytes whose header has the mark and the version of source document 001's example.
@@ -115,6 +115,9 @@ mod tests {
     #[test]
     fn where_an_entry_has_no_bytes_its_version_is_refused_as_its_part_is() {
         let image = board_with_a_binary();
+        let mode = Err(met_in_entry(16, 1, 2));
+        assert_eq!(entry_version(&image, 1, 2), mode);
+        assert_eq!(view_version(&image, LEVEL_ONE as usize, 2), mode);
         for (level, place) in [(1, LEVEL_ONE as usize), (2, LEVEL_TWO as usize)] {
             for index in [1, 2, 3, usize::MAX] {
                 if let Err(refusal) = part(&image, level, index) {
@@ -151,9 +154,22 @@ mod tests {
         let one = LEVEL_ONE as usize;
         assert_eq!(kpalumere_entry_version(&image, 1, 0, &mut []), 12);
         assert_eq!(kpalumere_view_version(&image, one, 0, &mut []), 12);
-        let mut words = [7, 8];
-        assert_eq!(kpalumere_entry_version(&image, 1, 2, &mut words), 16);
+        // An entry that has no bytes is told in four words.
+        let mut words = [7; 5];
+        assert_eq!(kpalumere_entry_version(&image, 1, 2, &mut words[..3]), 12);
+        assert_eq!(kpalumere_view_version(&image, one, 2, &mut words[..3]), 12);
+        assert_eq!(words, [7; 5]);
+        assert_eq!(kpalumere_entry_version(&image, 1, 2, &mut words[..4]), 16);
+        assert_eq!(words, [2, 1, 2, LEVEL_ONE, 7]);
+        words = [7; 5];
         assert_eq!(kpalumere_view_version(&image, one, 2, &mut words), 16);
+        assert_eq!(words, [2, 1, 2, LEVEL_ONE, 7]);
+        // What is wrong in the bytes of an entry is met in no directory, and neither is an index beyond it.
+        let mut words = [7, 8];
+        assert_eq!(kpalumere_entry_version(&image, 2, 0, &mut words), 1);
+        assert_eq!(kpalumere_entry_version(&board(), 1, 0, &mut words), 2);
+        assert_eq!(kpalumere_view_version(&board(), one, 0, &mut words), 2);
+        assert_eq!(kpalumere_view_version(&image, one, 3, &mut words), 8);
         assert_eq!(words, [7, 8]);
         assert_eq!(kpalumere_entry_version(&image, 1, 0, &mut words), 0);
         assert_eq!(words, [0x0008_0174, 8]);

@@ -15,7 +15,7 @@ exported! {
 pub fn view(image: &[u8], level: u32) -> Answer<u64> {
     answer_of(
         |words| kpalumere_view(image, level, words),
-        |&[place]| place,
+        |&[place, _, _, _]| place,
     )
 }
 
@@ -40,8 +40,10 @@ pub fn view_part(image: &[u8], place: usize, index: usize) -> Answer<Part> {
 #[cfg(test)]
 mod tests {
     use super::*;
-    use crate::answer::Refusal;
-    use crate::sample::{board, board_that_repeats, LEVEL_ONE, LEVEL_TWO};
+    use crate::answer::{Place, Refusal};
+    use crate::sample::{
+        board, board_that_repeats, met_in_entry, met_in_header, LENGTH, LEVEL_ONE, LEVEL_TWO,
+    };
     use crate::{entry, part};
 
     #[test]
@@ -66,13 +68,48 @@ mod tests {
 
     #[test]
     fn a_view_of_a_directory_that_repeats_answers_18() {
-        for (level, place) in [(1, LEVEL_ONE as usize), (2, LEVEL_TWO as usize)] {
+        for (level, place, index) in [(1, LEVEL_ONE as usize, 3), (2, LEVEL_TWO as usize, 2)] {
             let image = board_that_repeats(level);
-            let no = Refusal::alone(18);
+            let no = met_in_entry(18, u64::from(level), index);
             assert_eq!(view(&image, level), Err(no));
             assert_eq!(view_entry(&image, place, 0), Err(no));
             assert_eq!(view_part(&image, place, 0), Err(no));
         }
+    }
+
+    #[test]
+    fn a_view_tells_the_level_that_the_cookie_names_and_0_where_none_does() {
+        for (level, place) in [(1, LEVEL_ONE as usize), (2, LEVEL_TWO as usize)] {
+            let mut image = board();
+            image[place + 4] ^= 1;
+            let no = met_in_header(4, level);
+            assert_eq!(view_entry(&image, place, 0), Err(no));
+            assert_eq!(view_part(&image, place, 0), Err(no));
+        }
+        let unknown = |number, directory: usize| {
+            let place = Place {
+                level: 0,
+                index: None,
+                directory: directory as u64,
+            };
+            Refusal {
+                place: Some(place),
+                ..Refusal::alone(number)
+            }
+        };
+        // Sixteen bytes are a header, and hold no cookie; fifteen are none.
+        for (number, place) in [
+            (2, LEVEL_ONE as usize + 1),
+            (2, LENGTH - 16),
+            (1, LENGTH - 15),
+            (1, LENGTH),
+        ] {
+            let no = unknown(number, place);
+            assert_eq!(view_entry(&board(), place, 0), Err(no), "{place:#x}");
+            assert_eq!(view_part(&board(), place, 0), Err(no), "{place:#x}");
+        }
+        let beyond = Err(Refusal::alone(7));
+        assert_eq!(view_entry(&board(), LENGTH + 1, 0), beyond);
     }
 
     #[test]
@@ -97,5 +134,28 @@ mod tests {
         assert_eq!(kpalumere_view_entry(&image, place, 0, &mut words[..4]), 12);
         assert_eq!(kpalumere_view_part(&image, place, 0, &mut words[..1]), 12);
         assert_eq!(words, [7; 5]);
+    }
+
+    #[test]
+    fn a_place_takes_four_words_and_without_them_the_answer_is_12() {
+        let image = board_that_repeats(1);
+        type Call = fn(&[u8], usize, &mut [u64]) -> u64;
+        let calls: [Call; 3] = [
+            |image, _, words| kpalumere_view(image, 1, words),
+            |image, place, words| kpalumere_view_entry(image, place, 0, words),
+            |image, place, words| kpalumere_view_part(image, place, 0, words),
+        ];
+        let place = LEVEL_ONE as usize;
+        for (at, call) in calls.into_iter().enumerate() {
+            let mut words = [7; 6];
+            for count in 0..4 {
+                let number = call(&image, place, &mut words[..count]);
+                assert_eq!(number, 12, "{at}, {count} words");
+            }
+            assert_eq!(call(&[], place, &mut words), 15, "{at}");
+            assert_eq!(words, [7; 6], "{at}");
+            assert_eq!(call(&image, place, &mut words[..4]), 18, "{at}");
+            assert_eq!(words, [2, 1, 3, LEVEL_ONE, 7, 7], "{at}");
+        }
     }
 }

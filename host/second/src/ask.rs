@@ -73,10 +73,17 @@ fn told<T>(result: Result<T, Refusal>, accepted: impl FnOnce(T) -> String) -> An
 }
 
 fn refused(refusal: Refusal) -> String {
-    match refusal.tested {
-        None => format!("refused {}", refusal.number),
-        Some(tested) => format!("refused {} tested={}", refusal.number, tested),
+    let mut answer = format!("refused {}", refusal.number);
+    if let Some(tested) = refusal.tested {
+        answer.push_str(&format!(" tested={}", tested));
     }
+    if let Some(place) = refusal.place {
+        answer.push_str(&format!(" level={}", place.level));
+        if let Some(index) = place.index {
+            answer.push_str(&format!(" index={}", index));
+        }
+    }
+    answer
 }
 
 fn ok<T>(_: T) -> String {

@@ -5,6 +5,10 @@ use crate::little_endian::{put, u16_at, u32_at, u64_at};
 use crate::refusal::{require, Refusal};
 use std::collections::{BTreeMap, BTreeSet};
 
+mod wrong;
+
+pub use wrong::{wrong, Wrong};
+
 /// The longest flash image.
 const LONGEST_IMAGE: usize = 16_777_216;
 /// Where the window of physical addresses onto the flash ends: at 4 GiB, however long the image is.
@@ -262,8 +266,8 @@ fn level_by_cookie(bytes: &[u8], o: u64) -> Result<Level, Refusal> {
     Err(Refusal::of(2))
 }
 
-/// The checks of a directory of that level at `o`.
-fn checked_directory(bytes: &[u8], o: u64, level: Level) -> Result<Directory<'_>, Refusal> {
+/// The checks of the header of a directory of that level at `o`. Gives the total.
+fn checked_header(bytes: &[u8], o: u64, level: Level) -> Result<u32, Refusal> {
     // 16 bytes present
     require(lies_in(bytes, o, HEADER as u64), 1)?;
     let from_o = &bytes[o as usize..];
@@ -279,27 +283,59 @@ fn checked_directory(bytes: &[u8], o: u64, level: Level) -> Result<Directory<'_>
     require(u32_at(from_o, 4) == checksum(&from_o[8..length]), 4)?;
     // header reserved
     require(u32_at(from_o, 0x0C) == 0, 5)?;
-    // entry by entry: reserved, a misplaced 0x40, then a type and subprogram that an earlier one has
-    let mut seen = BTreeSet::new();
-    for entry in from_o[HEADER..length].chunks_exact(ENTRY) {
-        require(u16_at(entry, 2) == 0, 5)?;
-        require(level == Level::One || entry[0] != LEADS_TO_LEVEL_TWO, 14)?;
-        require(seen.insert((entry[0], entry[1])), 18)?;
-    }
-    Ok(Directory {
+    Ok(n)
+}
+
+/// The checks of an entry of that level. The types and subprograms of the entries before it are in `seen`, and its own is put there.
+fn check_entry(entry: &[u8], level: Level, seen: &mut BTreeSet<(u8, u8)>) -> Result<(), Refusal> {
+    // reserved
+    require(u16_at(entry, 2) == 0, 5)?;
+    // 0x40 has no place in level two
+    require(level == Level::One || entry[0] != LEADS_TO_LEVEL_TWO, 14)?;
+    // no earlier one has this type and subprogram
+    require(seen.insert((entry[0], entry[1])), 18)?;
+    Ok(())
+}
+
+/// The checks of a directory of that level at `o`. A refusal carries where it was met.
+fn checked_directory(bytes: &[u8], o: u64, level: Level) -> Result<Directory<'_>, Refusal> {
+    let in_header = |refusal: Refusal| refusal.in_header(level.number(), o);
+    let n = checked_header(bytes, o, level).map_err(in_header)?;
+    let directory = Directory {
         image: bytes,
         place: o,
         level,
         total: n,
-    })
+    };
+    let mut seen = BTreeSet::new();
+    for (index, entry) in (0..).zip(directory.entry_bytes()) {
+        directory.at_entry(index, check_entry(entry, level, &mut seen))?;
+    }
+    Ok(directory)
+}
+
+/// The checks of a directory of either level at `o`, whose cookie tells the level. Until it has, there is none: level 0.
+fn checked_by_cookie(bytes: &[u8], o: u64) -> Result<Directory<'_>, Refusal> {
+    let level = level_by_cookie(bytes, o).map_err(|refusal| refusal.in_header(0, o))?;
+    checked_directory(bytes, o, level)
 }
 
 impl<'a> Directory<'a> {
-    /// All entries in their order.
-    fn entries(&self) -> impl Iterator<Item = Entry> + 'a {
+    /// All entries in their order, as bytes.
+    fn entry_bytes(&self) -> impl Iterator<Item = &'a [u8]> {
         let first = self.place as usize + HEADER;
         let end = first + ENTRY * self.total as usize;
-        self.image[first..end].chunks_exact(ENTRY).map(Entry::read)
+        self.image[first..end].chunks_exact(ENTRY)
+    }
+
+    /// All entries in their order.
+    fn entries(&self) -> impl Iterator<Item = Entry> + 'a {
+        self.entry_bytes().map(Entry::read)
+    }
+
+    /// What was found at entry `index`; a refusal carries that place.
+    fn at_entry<T>(&self, index: u64, found: Result<T, Refusal>) -> Result<T, Refusal> {
+        found.map_err(|refusal| refusal.in_entry(self.level.number(), index, self.place))
     }
 
     /// Entry `index`; at or above the total it is 8, whatever bytes follow.
@@ -313,6 +349,11 @@ impl<'a> Directory<'a> {
     pub fn bytes(&self, index: u64) -> Result<Part, Refusal> {
         // index (8)
         let entry = self.entry(index)?;
+        self.at_entry(index, self.part(&entry))
+    }
+
+    /// Where the bytes of an entry of this directory lie.
+    fn part(&self, entry: &Entry) -> Result<Part, Refusal> {
         // a value has no bytes
         require(entry.kind != IS_A_VALUE, 17)?;
         // mode 3 (16), a physical address outside the window (7)
@@ -348,9 +389,9 @@ impl<'a> Directory<'a> {
         Err(Refusal::not_found(u64::from(self.total)))
     }
 
-    /// The level-two directory to which an entry of this directory leads, checked.
-    fn follow(&self, entry: &Entry) -> Result<Directory<'a>, Refusal> {
-        let o = self.place_led_to(entry)?;
+    /// The level-two directory to which entry `index` of this directory leads, checked.
+    fn follow(&self, index: u64, entry: &Entry) -> Result<Directory<'a>, Refusal> {
+        let o = self.at_entry(index, self.place_led_to(entry))?;
         checked_directory(self.image, o, Level::Two)
     }
 
@@ -440,9 +481,10 @@ fn directory_place(image: &[u8], level: Level) -> Result<u64, Refusal> {
     }
     let one = level_one(image)?;
     // the lowest entry of type 0x40 leads to level two
-    let leading = one.entries().find(|e| e.kind == LEADS_TO_LEVEL_TWO);
+    let mut indexed = (0..).zip(one.entries());
+    let leading = indexed.find(|(_, e)| e.kind == LEADS_TO_LEVEL_TWO);
     match leading {
-        Some(entry) => one.place_led_to(&entry),
+        Some((index, entry)) => one.at_entry(index, one.place_led_to(&entry)),
         None => Err(Refusal::of(8)),
     }
 }
@@ -521,7 +563,7 @@ pub fn find_image(image: &[u8], kind: u8, subprogram: u8) -> Result<FoundInImage
             });
         }
         if entry.kind == LEADS_TO_LEVEL_TWO {
-            let two = one.follow(&entry)?;
+            let two = one.follow(index, &entry)?;
             match two.find(kind, subprogram) {
                 Ok(found) => {
                     return Ok(FoundInImage {
@@ -550,7 +592,7 @@ pub fn all_directories(image: &[u8]) -> Result<Vec<Reached<'_>>, Refusal> {
     }];
     let indexed = (0..).zip(one.entries());
     for (lead, entry) in indexed.filter(|(_, entry)| entry.kind == LEADS_TO_LEVEL_TWO) {
-        let directory = one.follow(&entry)?;
+        let directory = one.follow(lead, &entry)?;
         all.push(Reached { directory, lead });
     }
     Ok(all)
@@ -593,8 +635,7 @@ impl<'a> View<'a> {
         check_image_length(self.image)?;
         // the place is not beyond the image
         require(self.place <= self.image.len() as u64, 7)?;
-        let level = level_by_cookie(self.image, self.place)?;
-        checked_directory(self.image, self.place, level)
+        checked_by_cookie(self.image, self.place)
     }
 
     /// As `Directory::entry`.
@@ -623,9 +664,8 @@ pub fn start(buffer: &mut [u8], level: u32) -> Result<(), Refusal> {
 /// Adds one entry to the directory at the buffer's start, and gives the new total.
 pub fn extend(buffer: &mut [u8], entry: &Entry) -> Result<u32, Refusal> {
     // a good directory of either level, by its cookie
-    let level = level_by_cookie(buffer, 0)?;
-    let directory = checked_directory(buffer, 0, level)?;
-    let n = directory.total;
+    let directory = checked_by_cookie(buffer, 0)?;
+    let (level, n) = (directory.level, directory.total);
     let repeats = directory.find(entry.kind, entry.subprogram).is_ok();
     // location and mode within their limits
     require(entry.location < LOCATION_END, 5)?;

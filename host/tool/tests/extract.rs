@@ -85,15 +85,8 @@ fn an_entry_without_bytes_makes_an_empty_file_and_one_at_the_end_all_of_it() {
 fn what_is_refused_writes_nothing() {
     let place = Workplace::with_board("extract-refused");
     place.put("bad.rom", Board::with(|board| board.one.wrong = 1));
-    place.put(
-        "repeats.rom",
-        Board::with(|board| board.one.entries[4].class = 0x00),
-    );
-    place.put(
-        "two-repeats.rom",
-        Board::with(|board| board.two.entries[3].class = 0x5A),
-    );
     place.put("kept.bin", "kept");
+    // What is met in a directory is told with where, which another test has.
     for (image, level, index, told) in [
         ("board.rom", "1", "2", "refused 17: the entry holds a value"),
         ("board.rom", "1", "4", "refused 16: address mode 3"),
@@ -116,36 +109,21 @@ fn what_is_refused_writes_nothing() {
             "refused 9: level, caller or command out of range",
         ),
         ("bad.rom", "1", "0", "refused 4: checksum is wrong"),
-        (
-            "repeats.rom",
-            "1",
-            "0",
-            "refused 18: entry repeats an earlier one; in level 1, entry 4 has the type 0x00 and subprogram 0x00 of entry 0",
-        ),
-        (
-            "two-repeats.rom",
-            "2",
-            "0",
-            "refused 18: entry repeats an earlier one; in level 2, entry 3 has the type 0x5a and subprogram 0x00 of entry 2",
-        ),
     ] {
         let expected = format!("{told}; nothing is written\n");
-        place
-            .tool(&["extract", image, level, index, "new.bin"])
-            .expect(5, &expected);
-        place
-            .tool(&["extract", image, level, index, "kept.bin", "--force"])
-            .expect(5, &expected);
+        for file in [&["new.bin"][..], &["kept.bin", "--force"]] {
+            let outcome = place.tool(&[&["extract", image, level, index], file].concat());
+            assert_eq!((outcome.status, outcome.said.as_str()), (Some(5), ""));
+            assert!(outcome.wrote.starts_with(&expected), "{outcome:?}");
+        }
         // To standard output go the bytes or nothing.
-        place
-            .tool(&["extract", image, level, index, "-"])
-            .expect_message(5, &format!("{told}; nothing is written"));
+        let outcome = place.tool(&["extract", image, level, index, "-"]);
+        assert_eq!((outcome.status, outcome.wrote.as_str()), (Some(5), ""));
+        let said = format!("kpalumere: {expected}");
+        assert!(outcome.said.starts_with(&said), "{outcome:?}");
     }
     assert_eq!(place.get("kept.bin"), b"kept");
-    board_is_kept(
-        &place,
-        &["bad.rom", "kept.bin", "repeats.rom", "two-repeats.rom"],
-    );
+    board_is_kept(&place, &["bad.rom", "kept.bin"]);
 }
 
 #[test]
@@ -304,8 +282,11 @@ fn an_entry_of_the_directory_at_a_place_is_written() {
         Board::new().bytes()[0x2_9000..0x2_9C00]
     );
     place
-        .tool(&["extract", "board.rom", "--at", "0x28001", "0", "new.bin"])
-        .expect(5, "refused 2: signature not found; nothing is written\n");
+        .tool(&["extract", "board.rom", "--at", "0x80001", "0", "new.bin"])
+        .expect(
+            5,
+            "refused 7: address outside the image; nothing is written\n",
+        );
     board_is_kept(&place, &["boot.bin"]);
 }
 
@@ -388,8 +369,10 @@ fn every_entry_that_has_bytes_is_written_into_a_folder() {
         left_out,
         [
             "entry 2 of level 1 at 0x21000, 0x0b soft fuse chain, is left out: it holds the value 0x100000001",
-            "entry 4 of level 1 at 0x21000, 0x22 token unlock data, is left out: refused 16: address mode 3",
-            "entry 2 of level 2 at 0x28000, 0x5a unnamed type, is left out: refused 7: address outside the image",
+            "entry 4 of level 1 at 0x21000, 0x22 token unlock data, is left out: refused 16: address mode 3; \
+             its location at 0x21058 has mode 3, and the highest that is followed is 2",
+            "entry 2 of level 2 at 0x28000, 0x5a unnamed type, is left out: refused 7: address outside the image; \
+             its location at 0x28038 is 0x7ff00, and its bytes do not lie in the image, which ends at 0x80000",
             "entry 3 of level 2 at 0x28000, 0x13 debug unlock image, is left out: it has no bytes",
         ]
     );
@@ -419,19 +402,11 @@ fn every_entry_that_has_bytes_is_written_into_a_folder() {
 fn of_an_image_that_is_refused_nothing_is_written_into_a_folder() {
     let place = Workplace::new("extract-all-refused");
     for (image, told) in [
-        (
-            Board::with(|board| board.one.wrong = 1),
-            "refused 4: checksum is wrong",
-        ),
-        (
-            Board::with(|board| board.two.wrong = 1),
-            "refused 4: checksum is wrong",
-        ),
         (vec![], "refused 15: image empty or too long"),
+        (vec![0; 1 << 20], "refused 2: signature not found"),
         (
-            Board::with(|board| board.two.entries[3].class = 0x5A),
-            "refused 18: entry repeats an earlier one; in level 2, entry 3 has the type 0x5a and \
-             subprogram 0x00 of entry 2",
+            Board::with(|board| board.late = 0),
+            "refused 8: no such entry, pointer or post",
         ),
     ] {
         place.put("bad.rom", image);

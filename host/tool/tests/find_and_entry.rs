@@ -144,6 +144,8 @@ entry 4 of level 1 at 0x21000, which has 5 entries
   size        0x100 (256 bytes)
   location    0x1000, mode 3: from partition start
   bytes       refused 16: address mode 3
+  why         its location at 0x21058 has mode 3, and the highest that is followed is 2
+  explain     kpalumere explain 16
 ";
     place
         .tool(&["entry", "board.rom", "1", "4"])
@@ -155,6 +157,8 @@ entry 2 of level 2 at 0x28000, which has 4 entries
   size        0x101 (257 bytes)
   location    0x7ff00, mode 1: from image start
   bytes       refused 7: address outside the image
+  why         its location at 0x28038 is 0x7ff00, and its bytes do not lie in the image, which ends at 0x80000
+  explain     kpalumere explain 7
 ";
     place
         .tool(&["entry", "board.rom", "2", "0x2"])
@@ -182,7 +186,7 @@ fn a_version_is_shown_to_people_and_programs() {
         let line = "of the image\n  version     00.08.01.74\n";
         assert!(outcome.wrote.contains(line), "{outcome:?}");
         let outcome = place.tool(&[words, &["--json"]].concat());
-        let field = "\"refused\": null, \"version\": \"00.08.01.74\"}}\n";
+        let field = "\"refused\": null, \"wrong\": null, \"version\": \"00.08.01.74\"}}\n";
         assert!(outcome.wrote.ends_with(field), "{outcome:?}");
     }
 }
@@ -302,17 +306,9 @@ fn no_words_are_told_where_there_are_no_bytes_to_extract() {
     }
 }
 
-/// Images that are refused, each with the number and its words.
-fn refused_images() -> Vec<(&'static str, Vec<u8>)> {
+/// Images that are refused before any directory is looked at, each with the number and its words.
+fn refused_before() -> Vec<(&'static str, Vec<u8>)> {
     let dump = Board::new().bytes();
-    // Level one begins so many bytes before the image's end.
-    let at_the_end = |length: usize| {
-        let place = LENGTH - length;
-        let mut image = Board::with(|board| board.late = place as u32);
-        let one = Board::new().one.bytes();
-        image[place..].copy_from_slice(&one[..length]);
-        image
-    };
     vec![
         ("refused 15: image empty or too long", vec![]),
         (
@@ -322,20 +318,9 @@ fn refused_images() -> Vec<(&'static str, Vec<u8>)> {
         ("refused 2: signature not found", vec![0; 16 << 20]),
         // Dumps that lack the EFS's first byte, and the last byte of all, by which every address is counted.
         ("refused 2: signature not found", dump[EFS + 1..].to_vec()),
-        ("refused 2: signature not found", dump[..LENGTH - 1].to_vec()),
-        ("refused 1: too few bytes", at_the_end(1)),
-        ("refused 1: too few bytes", at_the_end(16 * 6 - 1)),
         (
-            "refused 3: length or count outside its limits",
-            Board::with(|board| board.one.total = 513),
-        ),
-        (
-            "refused 4: checksum is wrong",
-            Board::with(|board| board.one.wrong = 1),
-        ),
-        (
-            "refused 5: reserved bits set, or a value that is not allowed",
-            Board::with(|board| board.one.entries[4].reserved = 1),
+            "refused 2: signature not found",
+            dump[..LENGTH - 1].to_vec(),
         ),
         // The pointer is the image's length, lies just below the window, and would be in the window of a longer image.
         (
@@ -350,54 +335,13 @@ fn refused_images() -> Vec<(&'static str, Vec<u8>)> {
             "refused 7: address outside the image",
             Board::with(|board| board.late = 0xFF00_0000 + LEVEL_ONE as u32),
         ),
-        // The public key again, last, with another size and place.
-        (
-            "refused 18: entry repeats an earlier one; in level 1, entry 4 has the type 0x00 and subprogram 0x00 of entry 0",
-            Board::with(|board| board.one.entries[4] = entry(0x00, 0, 0x100, 0x1000, 1)),
-        ),
-        // In both levels: level one is met first.
-        (
-            "refused 18: entry repeats an earlier one; in level 1, entry 2 has the type 0x03 and subprogram 0x00 of entry 1",
-            Board::with(|board| {
-                board.one.entries[2] = entry(0x03, 0, 0, 0, 1);
-                board.two.entries[3] = entry(0x01, 0, 0, 0, 1);
-            }),
-        ),
-    ]
-}
-
-/// Images whose level two is refused, where level one is not.
-fn refused_below() -> Vec<(&'static str, Vec<u8>)> {
-    let led_by = |word: u64| Board::with(|board| board.one.entries[3].word = word);
-    vec![
-        (
-            "refused 14: pointer to level 2 inside level 2",
-            Board::with(|board| board.two.entries[0] = entry(0x40, 9, 0, 0, 0)),
-        ),
-        (
-            "refused 18: entry repeats an earlier one; in level 2, entry 2 has the type 0x08 and subprogram 0x01 of entry 1",
-            Board::with(|board| board.two.entries[2] = entry(0x08, 1, 0, 0, 0)),
-        ),
-        ("refused 16: address mode 3", led_by(3 << 62)),
-        (
-            "refused 7: address outside the image",
-            led_by(1 << 62 | (LENGTH as u64 + 1)),
-        ),
-        // By a physical address below the window, and by one where it ends.
-        ("refused 7: address outside the image", led_by(WINDOW - 1)),
-        ("refused 7: address outside the image", led_by(1 << 32)),
-        ("refused 1: too few bytes", led_by(1 << 62 | LENGTH as u64)),
-        (
-            "refused 2: signature not found",
-            led_by(1 << 62 | (LEVEL_TWO as u64 + 1)),
-        ),
     ]
 }
 
 #[test]
-fn an_image_that_is_refused_is_told_with_number_and_words() {
+fn an_image_that_is_refused_before_its_directories_is_told_with_number_and_words() {
     let place = Workplace::new("refused-images");
-    for (told, image) in refused_images() {
+    for (told, image) in refused_before() {
         place.put("bad.rom", image);
         for words in [
             &["find", "bad.rom", "1", "0"][..],
@@ -407,17 +351,6 @@ fn an_image_that_is_refused_is_told_with_number_and_words() {
         ] {
             place.tool(words).expect(5, &format!("{told}\n"));
         }
-    }
-    for (told, image) in refused_below() {
-        place.put("bad.rom", image);
-        for words in [
-            &["find", "bad.rom", "1", "0"][..],
-            &["find", "bad.rom", "1", "0", "--level=2"],
-            &["entry", "bad.rom", "2", "0"],
-        ] {
-            place.tool(words).expect(5, &format!("{told}\n"));
-        }
-        assert_eq!(place.tool(&["entry", "bad.rom", "1", "0"]).status, Some(0));
     }
 }
 
@@ -438,29 +371,14 @@ fn levels_and_indices_that_there_are_not_are_refused() {
             .tool(&["entry", "board.rom", "1", index])
             .expect(5, "refused 8: no such entry, pointer or post\n");
     }
-    for (at, told) in [
-        ("0x21001", "refused 2: signature not found\n"),
-        ("0x80000", "refused 1: too few bytes\n"),
-        ("0x80001", "refused 7: address outside the image\n"),
-        (
-            "0xffffffffffffffff",
-            "refused 7: address outside the image\n",
-        ),
-    ] {
+    for at in ["0x80001", "0xffffffffffffffff"] {
         place
             .tool(&["entry", "board.rom", "--at", at, "0"])
-            .expect(5, told);
+            .expect(5, "refused 7: address outside the image\n");
     }
     place
         .tool(&["entry", "board.rom", "--at", "0x21000", "5"])
         .expect(5, "refused 8: no such entry, pointer or post\n");
-    place.put(
-        "repeats.rom",
-        Board::with(|board| board.two.entries[2] = entry(0x08, 1, 0, 0, 0)),
-    );
-    place
-        .tool(&["entry", "repeats.rom", "--at", "0x28000", "0"])
-        .expect(5, "refused 18: entry repeats an earlier one\n");
 }
 
 #[test]

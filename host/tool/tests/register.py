@@ -42,6 +42,8 @@ def images_of_csv(text):
         assert None not in row and None not in row.values(), row
         assert row["format"] == str(FORMAT), row
         fields = {name: value_of(name, cell) for name, cell in row.items()}
+        fields["met"] = parts_of(fields, "met", ("level", "index", "directory"))
+        fields["wrong"] = parts_of(fields, "wrong", ("field", "bytes", "stands", "should"))
         if row["row"] == "image":
             fields["efs"] = {part: fields["efs_" + part] for part in ("place", "early", "late", "refused")}
             fields["pointer"] = {part: fields["pointer_" + part] for part in ("field", "value", "place", "refused")}
@@ -61,11 +63,22 @@ def images_of_csv(text):
     return images
 
 
+def parts_of(fields, name, parts):
+    """An object of JSON in the place of its cells, which are empty where it is null."""
+    values = {part: fields.pop(f"{name}_{part}") for part in parts}
+    return None if set(values.values()) == {None} else values
+
+
+TEXTS = (
+    *("row", "file", "file_bytes", "verdict", "where", "message", "name", "location", "value", "version"),
+    *("wrong_stands", "wrong_should"),
+)
+
+
 def value_of(name, cell):
     if cell == "":
         return None
-    texts = ("row", "file", "file_bytes", "verdict", "where", "message", "name", "location", "value", "version")
-    return unescaped(cell) if name in texts else int(cell)
+    return unescaped(cell) if name in TEXTS else int(cell)
 
 
 def unescaped(cell):
@@ -76,9 +89,17 @@ def unescaped(cell):
 def answer(fields, template):
     """An answer of the ask language: the fields in a template, or the refusal."""
     if fields["refused"] is None:
+        assert fields.get("met") is None and fields.get("wrong") is None, fields
         return "ok " + template.format(**fields)
     tested = fields.get("tested")
-    return f"refused {fields['refused']}" + ("" if tested is None else f" tested={tested}")
+    return f"refused {fields['refused']}" + ("" if tested is None else f" tested={tested}") + met(fields.get("met"))
+
+
+def met(place):
+    """What an answer has behind the number of a refusal that was met in a directory."""
+    if place is None:
+        return ""
+    return f" level={place['level']}" + ("" if place["index"] is None else f" index={place['index']}")
 
 
 def added_lines(image):
@@ -91,6 +112,26 @@ def added_lines(image):
         for entry in directory["entries"]:
             if entry["place"] is not None:
                 yield f"version {entry['place']} {entry['length']}", entry["version"] or "none"
+            if entry["refused"] is not None:
+                yield wrong_line(met_in(directory, entry), entry)
+    for refused in [image, *image["directories"], *image["asked"]]:
+        # What is met in a directory tells both, and what is not tells neither.
+        assert (refused["met"] is None) == (refused["wrong"] is None), refused
+        if refused["met"] is not None:
+            yield wrong_line(refused["met"], refused)
+
+
+def met_in(directory, entry):
+    """Where an entry of a directory stands."""
+    return {"level": directory["level"], "index": entry["index"], "directory": directory["place"]}
+
+
+def wrong_line(place, refused):
+    """The call that tells what is wrong where a refusal was met, and its answer. A header has no index to ask for."""
+    index = 0 if place["index"] is None else place["index"]
+    fields = "ok number={number} field={field} bytes={bytes} stands={stands} should={should}"
+    answer = fields.format(number=refused["refused"], **refused["wrong"])
+    return f"wrong {place['directory']} {place['level']} {index}", answer
 
 
 def by_level(image):
@@ -108,12 +149,14 @@ def repeat_answer(directory):
     return "refused 8" if directory["refused"] is None else f"refused {directory['refused']}"
 
 
-def part_answer(entry):
+def part_answer(directory, entry):
     """Where the bytes of an entry lie; one that holds a value tells that in their place, and has no number."""
+    place = met_in(directory, entry)
     if entry["value"] is not None:
         assert entry["value"] == entry["location"] and entry["refused"] is None, entry
-        return "refused 17"
-    return answer(entry, "place={place:#x} length={length}")
+        return "refused 17" + met(place)
+    refused = entry["refused"] is not None
+    return answer(dict(entry, met=place) if refused else entry, "place={place:#x} length={length}")
 
 
 def ask_lines(image):
@@ -126,7 +169,7 @@ def ask_lines(image):
         for entry in directory["entries"]:
             fields = "ok type={type:#x} sub={subprogram:#x} size={size:#x} location={location} mode={mode}"
             yield f"view-entry a {place} {entry['index']}", fields.format(**entry)
-            yield f"view-bytes a {place} {entry['index']}", part_answer(entry)
+            yield f"view-bytes a {place} {entry['index']}", part_answer(directory, entry)
         if directory["refused"] is None:
             yield f"view-entry a {place} {directory['total']}", "refused 8"
     for asked in image["asked"]:
@@ -146,11 +189,19 @@ def from_end(image):
 
     def told(name, value):
         if isinstance(value, dict):
-            return {part: told(part, inner) for part, inner in value.items()}
+            parts = {part: told(part, inner) for part, inner in value.items()}
+            if value.get("wrong") is not None:
+                parts["wrong"] = of_wrong(value["refused"], value["wrong"])
+            return parts
         if isinstance(value, list):
             return [told(name, inner) for inner in value]
         is_place = name == "directory" or name.endswith("place")
         return image["length"] - value if is_place and value is not None else value
+
+    def of_wrong(refused, wrong):
+        # What a 7 should be below is the length itself.
+        should = 0 if refused == 7 and int(wrong["should"], 16) == image["length"] else wrong["should"]
+        return dict(wrong, field=image["length"] - wrong["field"], should=should)
 
     return {name: told(name, value) for name, value in image.items() if name != "length"}
 

@@ -389,7 +389,8 @@ fn an_image_that_repeats_an_entry_is_refused_in_every_form() {
         assert_eq!((run.status, text(&run.said)), (Some(5), String::new()));
         text(&run.answers)
     };
-    let head = "\"two-repeats.rom\": refused 18: entry repeats an earlier one (level 2)\n";
+    let head = "\"two-repeats.rom\": refused 18: entry repeats an earlier one \
+                (entry 2 of level 2 at 0x23800)\n";
     let summary = "2 images: 1 good, 0 no boot loader, 0 boot loader without bytes, \
                    1 refused (1 by 18), 0 not read\n";
     for form in [&[][..], &["--quiet"]] {
@@ -397,8 +398,9 @@ fn an_image_that_repeats_an_entry_is_refused_in_every_form() {
         assert!(shown.contains(head) && shown.ends_with(summary), "{shown}");
         assert!(
             shown.contains(
-                "  level 2: refused 18: entry repeats an earlier one; \
-                 entry 2 has the type 0x01 and subprogram 0x00 of entry 0\n"
+                "  level 2: refused 18: entry repeats an earlier one\n    \
+                     entry 2 of level 2 at 0x23800: its type at 0x23830 is 0x01 and its subprogram \
+                     0x00, which entry 0 has already\n"
             ),
             "{shown}"
         );
@@ -411,8 +413,11 @@ fn an_image_that_repeats_an_entry_is_refused_in_every_form() {
     for form in [&["--json"][..], &["--json", "--quiet"]] {
         let shown = shown(form);
         for expected in [
-            "\"file\": \"two-repeats.rom\",\n   \"file_bytes\": null,\n   \"verdict\": \"refused\",\n   \"refused\": 18,\n   \"where\": \"level 2\",\n",
+            "\"file\": \"two-repeats.rom\",\n   \"file_bytes\": null,\n   \"verdict\": \"refused\",\n   \"refused\": 18,\n   \
+             \"where\": \"entry 2 of level 2 at 0x23800\",\n",
             "{\"level\": 2, \"lead\": 1, \"place\": null, \"total\": null, \"refused\": 18, \
+             \"met\": {\"level\": 2, \"index\": 2, \"directory\": 145408}, \
+             \"wrong\": {\"field\": 145456, \"bytes\": 1, \"stands\": \"0x1\", \"should\": \"0x0\"}, \
              \"repeat\": {\"index\": 2, \"earlier\": 0, \"type\": 1, \"subprogram\": 0}, \"entries\": []}",
         ] {
             assert!(shown.contains(expected), "{expected}\n{shown}");
@@ -421,8 +426,8 @@ fn an_image_that_repeats_an_entry_is_refused_in_every_form() {
     for form in [&["--csv"][..], &["--csv", "--quiet"]] {
         let shown = shown(form);
         for expected in [
-            "2,image,two-repeats.rom,,refused,18,level 2,,524288,",
-            "2,directory,two-repeats.rom,,,18,,,,,,,,,,,,2,1,,,,,,,,,,,,,,2,0,1,0",
+            "2,image,two-repeats.rom,,refused,18,entry 2 of level 2 at 0x23800,,524288,",
+            "2,directory,two-repeats.rom,,,18,,,,,,,,,,,,2,1,,,,,,,,,,,,,,2,0,1,0,2,2,145408,145456,1,0x1,0x0",
             "2,asked,two-repeats.rom,,,18,",
         ] {
             assert!(
@@ -815,6 +820,15 @@ fn added(call: &str, image: &[u8]) -> String {
                 let (index, earlier) = (repeat.index, repeat.earlier);
                 let (class, subprogram) = (repeat.kind, repeat.subprogram);
                 format!("index={index} earlier={earlier} type={class:#x} sub={subprogram:#x}")
+            }))
+        }
+        ["wrong", place, level, index] => {
+            let [place, index] = [place, index].map(|word| word.parse().unwrap());
+            let wrong = second::flash::wrong(image, place, level.parse().unwrap(), index);
+            told(wrong.map(|wrong| {
+                let (number, field, bytes) = (wrong.number, wrong.field, wrong.bytes);
+                let (stands, should) = (wrong.stands, wrong.should);
+                format!("number={number} field={field} bytes={bytes} stands={stands:#x} should={should:#x}")
             }))
         }
         ["version", place, length] => {

@@ -70,7 +70,9 @@ fn every_example_of_the_page_works() {
         written,
         [
             "fleet/none.rom no-boot-loader  type 0x01 stands in level 2 at index 0 with \
-             subprogram 0x09\nfleet/repeats.rom refused 18 level 2\n",
+             subprogram 0x09\nfleet/repeats.rom refused 18 entry 3 of level 2 at 0x28000\n",
+            // The fourth entry has the type of the first, whose index is 0.
+            "fleet/repeats.rom 18 0x28040 0x1 0x0\n",
             "fleet/repeats.rom level 2 entries 0 and 3\n",
             "fleet/good.rom 00.08.01.74\nfleet/none.rom None\nfleet/repeats.rom None\n",
         ]
@@ -96,7 +98,10 @@ fn the_page_names_every_column_and_every_field() {
     for name in columns.iter().copied().chain(rows.skip(1)) {
         assert!(page.contains(&format!("`{name}`")), "{name}");
     }
-    let json = place.tool(&["register", "--sample", "--json"]).wrote;
+    place.put("bad.rom", Board::with(|board| board.one.wrong = 1));
+    let json = place
+        .tool(&["register", "--sample", "--json", "bad.rom"])
+        .wrote;
     let fields = json.split('"').skip(1).step_by(2);
     let after = json.split('"').skip(2).step_by(2);
     let mut seen = 0;

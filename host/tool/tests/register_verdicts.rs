@@ -107,8 +107,8 @@ fn judged() -> Vec<Judged> {
             image: Some(broken),
             verdict: "refused",
             refused: "4",
-            met: "level 2",
-            headline: "refused 4: checksum is wrong (level 2)",
+            met: "header of level 2 at 0x28000",
+            headline: "refused 4: checksum is wrong (header of level 2 at 0x28000)",
             status: 5,
         },
         Judged {
@@ -256,14 +256,14 @@ fn a_brief_register_has_a_line_for_each() {
     let brief = place.tool(&all);
     assert_eq!(brief.status, Some(3));
     let rows = [
-        "name                    verdict                                boot loader  recovery boot loader  secure OS  SMU firmware",
-        "\"good.rom\"              good                                   yes          yes                   -          -",
-        "\"none.rom\"              no boot loader                         -            yes                   -          -",
-        "\"other-subprogram.rom\"  no boot loader                         -            yes                   -          -",
-        "\"partition.rom\"         boot loader without bytes, refused 16  refused 16   yes                   -          -",
-        "\"outside.rom\"           boot loader without bytes, refused 7   refused 7    yes                   -          -",
-        "\"broken.rom\"            refused 4                              -            yes                   -          -",
-        "\"missing.rom\"           not read                               -            -                     -          -",
+        "name                    verdict                                                    boot loader  recovery boot loader  secure OS  SMU firmware",
+        "\"good.rom\"              good                                                       yes          yes                   -          -",
+        "\"none.rom\"              no boot loader                                             -            yes                   -          -",
+        "\"other-subprogram.rom\"  no boot loader                                             -            yes                   -          -",
+        "\"partition.rom\"         boot loader without bytes, refused 16, entry 0 of level 2  refused 16   yes                   -          -",
+        "\"outside.rom\"           boot loader without bytes, refused 7, entry 0 of level 2   refused 7    yes                   -          -",
+        "\"broken.rom\"            refused 4, header of level 2                               -            yes                   -          -",
+        "\"missing.rom\"           not read                                                   -            -                     -          -",
         "",
         "7 images: 1 good, 2 no boot loader, 2 boot loader without bytes, 1 refused (1 by 4), 1 not read",
     ];
@@ -309,7 +309,7 @@ fn an_entry_that_holds_a_value_shows_it_and_is_no_fault() {
     assert!(!shown.contains("refused 17"), "{shown}");
     let json = place.tool(&["register", "--json", "board.rom"]).wrote;
     let field = "\"location\": \"0x100000001\", \"value\": \"0x100000001\", \"place\": null, \
-                 \"length\": null, \"refused\": null, ";
+                 \"length\": null, \"refused\": null, \"wrong\": null, ";
     assert!(json.contains(field), "{json}");
     // Any other entry has no value, but its number where it has no bytes.
     assert_eq!(json.matches("\"value\": null, ").count(), 8, "{json}");
@@ -359,7 +359,7 @@ fn every_directory_is_shown_and_one_that_stands_above_is_said_to() {
 }
 
 #[test]
-fn a_fault_behind_the_lowest_lead_refuses_the_image_and_names_its_entries() {
+fn a_fault_behind_the_lowest_lead_refuses_the_image_and_tells_where() {
     let place = Workplace::new("verdicts-later");
     let repeats = vec![
         entry(0x12, 0, 0x20, 0x3_9000, 1),
@@ -367,17 +367,19 @@ fn a_fault_behind_the_lowest_lead_refuses_the_image_and_names_its_entries() {
     ];
     let again = Directory::of(2, repeats);
     let [to_the_second, to_the_first] = two_leads();
-    for (leads, number, words) in [
-        (vec![to_the_second.clone()], 18, "led by entry 5 of level 1"),
+    let in_the_second = "entry 1 of level 2 at 0x38000";
+    for (leads, number, met) in [
+        (vec![to_the_second.clone()], 18, in_the_second),
         (
             vec![to_the_first.clone(), to_the_second.clone()],
             18,
-            "led by entry 5 or 6 of level 1",
+            in_the_second,
         ),
+        // The lead itself leads nowhere.
         (
             vec![to_the_first, entry(0x40, 7, 0, 0, 3), to_the_second],
             16,
-            "led by entry 5, 6 or 7 of level 1",
+            "entry 6 of level 1 at 0x21000",
         ),
     ] {
         place.put("board.rom", with_directories(&leads, &again));
@@ -386,14 +388,21 @@ fn a_fault_behind_the_lowest_lead_refuses_the_image_and_names_its_entries() {
         let head = format!("\"board.rom\": refused {number}: ");
         assert!(shown.wrote.starts_with(&head), "{}", shown.wrote);
         let first = shown.wrote.lines().next().unwrap_or_default();
-        assert!(first.ends_with(&format!(" (level 2, {words})")), "{first}");
-        let line = format!("\n  level 2, {words}: refused {number}: ");
-        assert!(shown.wrote.contains(&line), "{}", shown.wrote);
+        assert!(first.ends_with(&format!(" ({met})")), "{first}");
+        let mut lines = shown.wrote.lines();
+        let line = format!("  another level 2: refused {number}: ");
+        assert!(
+            lines.any(|shown| shown.starts_with(&line)),
+            "{}",
+            shown.wrote
+        );
+        let below = lines.next().unwrap_or_default();
+        assert!(below.starts_with(&format!("    {met}: its ")), "{below}");
         // What the calls by level give is shown all the same, the boot loader with it.
         assert!(shown.wrote.contains("0x01 boot loader"), "{}", shown.wrote);
         for form in ["json", "csv"] {
             let read = read_by_python(&place, "verdicts", form, &["board.rom"]);
-            let due = format!("board.rom\trefused\t{number}\tlevel 2, {words}\t-\n");
+            let due = format!("board.rom\trefused\t{number}\t{met}\t-\n");
             assert_eq!(read, due, "{form}");
         }
     }

@@ -15,12 +15,16 @@ const MACHINES: [&str; 5] = [
     "machine-5-thirteenth-of-twelve",
 ];
 
+/// The boards that are refused.
+const REFUSED: [&str; 2] = ["entry-300-of-301", "as-amdfwtool-writes-it"];
+
 /// The files that are written, from the folder on.
 fn files() -> Vec<String> {
     let machines = MACHINES.iter().map(|name| format!("boards/{name}.rom"));
     machines
         .chain(["boards/sample-board.rom".to_string()])
         .chain(["filed", "it-should-be"].map(|how| format!("recordings/sixth-as-{how}.check")))
+        .chain(REFUSED.map(|name| format!("refused/{name}.rom")))
         .collect()
 }
 
@@ -43,8 +47,8 @@ fn a_new_folder_has_the_samples_and_no_more() {
         assert!(outcome.wrote.contains(&line), "{outcome:?}");
     }
     let written = |folder: &str| fs::read_dir(place.path(folder)).unwrap().count();
-    let amounts = ["six", "six/boards", "six/recordings"].map(written);
-    assert_eq!(amounts, [2, 6, 2]);
+    let amounts = ["six", "six/boards", "six/recordings", "six/refused"].map(written);
+    assert_eq!(amounts, [3, 6, 2, 2]);
 }
 
 #[test]
@@ -84,6 +88,20 @@ fn the_board_is_the_one_that_the_register_shows() {
 }
 
 #[test]
+fn both_programs_tell_where_a_refused_board_is_at_fault() {
+    let place = Workplace::new("samples-refused");
+    place.tool(&["samples", "six"]);
+    let files = REFUSED.map(|name| format!("file a six/refused/{name}.rom\ndirectory a 1\n"));
+    let due =
+        "ok length=524288\nrefused 5 level=1 index=300\nok length=524288\nrefused 5 level=1\n";
+    for program in [Program::tool(), Program::second()] {
+        let run = program.answers_to(files.concat().as_bytes(), place.folder());
+        let answers = String::from_utf8(run.answers).expect("answers are text");
+        assert_eq!(answers, due);
+    }
+}
+
+#[test]
 fn the_second_program_answers_as_the_recording_should_be() {
     let place = Workplace::new("samples-second");
     place.tool(&["samples", "six"]);
@@ -113,11 +131,12 @@ fn what_is_said_to_be_tried_next_can_be_tried() {
         statuses.push(outcome.status);
         last.push(outcome.wrote.lines().last().unwrap_or_default().to_string());
     }
-    // Machines without a boot loader; none found; no such entry; words that differ; and none that does.
-    assert_eq!(statuses, [Some(1), Some(1), Some(5), Some(1), Some(0)]);
+    // Machines without a boot loader; none found; no such entry; words that differ; none that does; and boards that are refused.
+    let due = [1, 1, 5, 1, 0, 5].map(Some);
+    assert_eq!(statuses, due);
     assert_eq!(last[1], "none (14 entries tested)");
     assert_eq!(
-        last[3..],
+        last[3..5],
         [
             "21 answers checked, 4 differ",
             "21 answers checked, 0 differ"
@@ -157,7 +176,7 @@ fn what_is_there_is_left_as_it_is_unless_force_is_said() {
     let outcome = place.tool(&["samples", "six"]);
     outcome.expect_message(
         3,
-        "\"six/boards/machine-1-behind-the-last-entry.rom\" and 6 more would be written over, and nothing is written. \
+        "\"six/boards/machine-1-behind-the-last-entry.rom\" and 8 more would be written over, and nothing is written. \
          Name another folder, or say --force to write over what is there.",
     );
     assert!(!place.path("six/boards/sample-board.rom").exists());

@@ -237,6 +237,9 @@ fn what_find_and_entry_write_keeps_to_its_schema() {
         &["board.rom", "4294967295", "0"],
         &["board.rom", "--at", "0x28000", "3"],
         &["board.rom", "--at", "18446744073709551615", "3"],
+        // Neither cookie, and a header that is cut off: no level is told.
+        &["board.rom", "--at", "0x21001", "0"],
+        &["board.rom", "--at", "0x7ffff", "0"],
     ] {
         documents.add("entry", &words(more));
     }
@@ -326,6 +329,10 @@ fn what_mailbox_writes_keeps_to_its_schema() {
 fn a_document_that_lacks_a_field_or_has_another_type_in_it_is_refused_by_its_schema() {
     let place = Workplace::with_board("schema-changes");
     place.put("bad.rom", Board::with(|board| board.one.wrong = 1));
+    place.put(
+        "bit.rom",
+        Board::with(|board| board.two.entries[1].reserved = 1),
+    );
     place.put("aspt.bin", aspt());
     place.put("guids.fd", guids());
     place.put("recording.ask", RECORDING);
@@ -334,8 +341,10 @@ fn a_document_that_lacks_a_field_or_has_another_type_in_it_is_refused_by_its_sch
         ("find", &["board.rom", "1", "0"][..]),
         ("find", &["board.rom", "9", "9"]),
         ("find", &["bad.rom", "1", "0"]),
+        ("find", &["board.rom", "token-unlock", "0"]),
         ("entry", &["board.rom", "1", "2"]),
         ("entry", &["board.rom", "--at=1", "2"]),
+        ("entry", &["bit.rom", "2", "0"]),
         ("aspt", &["aspt.bin"]),
         ("aspt", &["bad.rom"]),
         ("guids", &["guids.fd"]),
@@ -343,6 +352,7 @@ fn a_document_that_lacks_a_field_or_has_another_type_in_it_is_refused_by_its_sch
         ("mailbox", &["recording.ask"]),
         ("register", &["board.rom"]),
         ("register", &["bad.rom", "none.rom"]),
+        ("register", &["bit.rom"]),
     ] {
         documents.add(command, &words(more));
     }

@@ -270,6 +270,8 @@ subprogram 1
 in_level null
 tested 6
 refused null
+met null
+wrong null
 level 2
 directory 163840
 entry.index 1
@@ -283,6 +285,7 @@ entry.value null
 entry.place 184320
 entry.length 4096
 entry.refused null
+entry.wrong null
 entry.version null
 ",
     );
@@ -299,6 +302,8 @@ subprogram 1
 in_level 1
 tested 5
 refused 8
+met null
+wrong null
 level null
 directory null
 entry null
@@ -308,18 +313,23 @@ entry null
     let outcome = place.tool(&["find", "bad.rom", "9", "1", "--json"]);
     assert_eq!(outcome.status, Some(5));
     let read = read_by_python(&outcome);
-    assert!(read.contains("\ntested null\nrefused 4\n"), "{read}");
+    let met = "\ntested null\nrefused 4\nmet.level 1\nmet.index null\nmet.directory 135168\nwrong.field 135172\n";
+    assert!(read.contains(met), "{read}");
     let repeats = Board::with(|board| board.two.entries[3].class = 0x5A);
     place.put("repeats.rom", repeats);
     let outcome = place.tool(&["find", "repeats.rom", "9", "1", "--json"]);
     assert_eq!(outcome.status, Some(5));
     let read = read_by_python(&outcome);
-    assert!(read.contains("\ntested null\nrefused 18\n"), "{read}");
+    let met = "met.level 2\nmet.index 3\nmet.directory 163840\n\
+               wrong.field 163904\nwrong.bytes 1\nwrong.stands \"0x5a\"\nwrong.should \"0x2\"\n";
+    let refused = format!("\ntested null\nrefused 18\n{met}level null\n");
+    assert!(read.contains(&refused), "{read}");
     let outcome = place.tool(&["entry", "repeats.rom", "2", "0", "--json"]);
     assert_eq!(outcome.status, Some(5));
     let read = read_by_python(&outcome);
+    let refused = format!("directory null\ntotal null\nrefused 18\n{met}entry null\n");
     assert!(
-        read.ends_with("level 2\nat null\ndirectory null\ntotal null\nrefused 18\nentry null\n"),
+        read.ends_with(&format!("level 2\nat null\n{refused}")),
         "{read}"
     );
 }
@@ -343,6 +353,8 @@ at null
 directory 163840
 total 4
 refused null
+met null
+wrong null
 entry.index 2
 entry.type 90
 entry.name null
@@ -354,6 +366,10 @@ entry.value null
 entry.place null
 entry.length null
 entry.refused 7
+entry.wrong.field 163896
+entry.wrong.bytes 8
+entry.wrong.stands \"0x7ff00\"
+entry.wrong.should \"0x80000\"
 entry.version null
 ",
     );
@@ -361,7 +377,9 @@ entry.version null
     assert_eq!(outcome.status, Some(5));
     let read = read_by_python(&outcome);
     assert!(
-        read.ends_with("level 1\nat null\ndirectory null\ntotal null\nrefused 8\nentry null\n"),
+        read.ends_with(
+            "level 1\nat null\ndirectory null\ntotal null\nrefused 8\nmet null\nwrong null\nentry null\n"
+        ),
         "{read}"
     );
 }

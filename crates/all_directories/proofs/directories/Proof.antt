@@ -6,7 +6,7 @@ use Rattle.directory.specs.Directory.{toldDirectory}
 use Rattle.directory.specs.declared.Directory.{Directory}
 use Rattle.window.proofs.Length.{allowed-test}
 use Rattle.lent.specs.Lent.{numberLeft, wordsLeft}
-use Rattle.lent.proofs.Laws.{alone-number, alone-words}
+use Rattle.lent.proofs.Laws.{fault-number, fault-words}
 use Rattle.efs.specs.Rules.{rulesOf}
 use Rattle.flash.specs.Flash.{flashDirectory}
 use Rattle.flash.proofs.Ways.{opened-small}
@@ -32,8 +32,8 @@ list-requires c κs = let o = opened-small _ _ _ 1 (opened (c .before)) in (allo
 enum-known-why : tie.Need-enum-known-why
 enum-known-why c = search needs
 
-cast-result : tie.Need-cast-result
-cast-result c = search needs
+put-fault-requires : tie.Need-put-fault-requires
+put-fault-requires c κs = search needs
 
 same-length : tie.Need-same-length
 same-length c = search needs
@@ -50,13 +50,17 @@ returns c =
       l .ensures .1 ∙ ap (λ (x : Reply (List Entered)). wordsLeft layDirectories x (now (a .words))) (sym is),
     )
 
+same-length-2 : tie.Need-same-length-2
+same-length-2 c = search needs
+
 returns-2 : tie.Need-returns-2
 returns-2 c =
-    let a = c .before .before .before .before .before .before .before .args in
-    let s = now (a .image) in
-    let w = c .before .before .why .given in
-    let is = ap (λ (x : Reply Directory). then x (λ d. enteredIn (walkOf 1 (rulesOf s) s d) 0)) (sym (c .before .before .before .before .directory .ensures) ∙ ap toldDirectory (w .1)) in
-    (alone-number layDirectories _ _ (w .0 .0 .number) is, alone-words layDirectories _ _ (w .0 .0 .number) is)
+    let p = c .before .before in
+    let m = p .before .before .before in
+    let s = now (m .before .before .before .before .before .args .image) in
+    let w = m .why .given in
+    let is = ap (λ (x : Reply Directory). then x (λ d. enteredIn (walkOf 1 (rulesOf s) s d) 0)) (sym (m .before .before .directory .ensures) ∙ ap toldDirectory (w .1)) in
+    (fault-number layDirectories _ _ (w .0 .0) _ is (p .put-fault .ensures .0), fault-words layDirectories _ _ (w .0 .0) _ is (p .put-fault .ensures .1))
 
 pub directories-spec : {M : Type 1} → statement M
 directories-spec =
@@ -66,7 +70,8 @@ directories-spec =
     enum-known-d
     list-requires
     enum-known-why
-    cast-result
+    put-fault-requires
     same-length
     returns
+    same-length-2
     returns-2)

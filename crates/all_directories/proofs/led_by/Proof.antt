@@ -1,7 +1,6 @@
 use mathlib.Core.Path.{_≡_, sym, ap, _∙_}
 use denote.Ref.{now}
 use Rattle.reply.proofs.ReplyLaws.{clash, passed}
-use Rattle.window.specs.declared.Offset.{Offset}
 use Rattle.entries.specs.declared.Entry.{Entry}
 use Rattle.entries.specs.Entry.{entryOf, toldEntry}
 use Rattle.entries.proofs.Accept.{all-entry}
@@ -16,9 +15,6 @@ entry-in-requires c κs = search needs
 enum-known-e : tie.Need-enum-known-e
 enum-known-e c = search needs
 
-place-requires : tie.Need-place-requires
-place-requires c κs = search needs
-
 level-two-at-requires : tie.Need-level-two-at-requires
 level-two-at-requires c κs = search needs
 
@@ -27,14 +23,13 @@ enum-known-why c = search needs
 
 returns : tie.Need-returns
 returns c =
-    let t = c .before .before .before .before .before .before .before in
+    let t = c .before .before .before .before .before .before in
     let a = t .args in
     let s = now (a .image) in
-    let e = c .before .before .before .e .given in
-    let told = sym (ap toldEntry (e .1)) ∙ c .before .before .before .before .before .entry-in .ensures ∙ all-entry (a .rules .kind) s (a .d) (a .i) (t .pre .1) in
+    let e = c .before .before .e .given in
+    let told = sym (ap toldEntry (e .1)) ∙ c .before .before .before .before .entry-in .ensures ∙ all-entry (a .rules .kind) s (a .d) (a .i) (t .pre .1) in
     let is : e .0 .0 ≡ entryOf (a .rules .kind) s (a .d) (a .i) = cc in
-    c .level-two-at .ensures ∙ passed _ _ _ _ (t .pre .0) ∙ ap (λ (o : Offset). levelTwoAt (a .rules) s (o .0) (e .0 .0)) (c .before .place .ensures)
-    ∙ ap (λ (e : Entry). levelTwoAt (a .rules) s (a .d .place .0) e) is
+    c .level-two-at .ensures ∙ passed _ _ _ _ (t .pre .0) ∙ ap (λ (e : Entry). levelTwoAt (a .rules) s (a .d) (a .i) e) is
 
 returns-2 : tie.Need-returns-2
 returns-2 c =
@@ -48,7 +43,6 @@ led-by-spec =
     (tie.spec
     entry-in-requires
     enum-known-e
-    place-requires
     level-two-at-requires
     enum-known-why
     returns

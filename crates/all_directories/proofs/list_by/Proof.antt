@@ -7,7 +7,7 @@ use lib.Seq.{length-take-le}
 use denote.Ref.{now}
 use Rattle.reply.specs.Reply.{given}
 use Rattle.lent.specs.Lent.{numberFor, wordsFor}
-use Rattle.lent.proofs.Laws.{given-number, given-words, alone-number, alone-words}
+use Rattle.lent.proofs.Laws.{given-number, given-words, fault-number, fault-words}
 use Rattle.efs.specs.declared.Rules.{Rules}
 use Rattle.walk.specs.Walk.{walkOf}
 use Rattle.all_directories.specs.AllDirectories.{Entered, enteredIn, layRows, layDirectories}
@@ -65,8 +65,8 @@ put-requires c κs = search needs
 enum-known-why : tie.Need-enum-known-why
 enum-known-why c = search needs
 
-cast-result : tie.Need-cast-result
-cast-result c = search needs
+put-fault-requires : tie.Need-put-fault-requires
+put-fault-requires c κs = search needs
 
 same-length : tie.Need-same-length
 same-length c = search needs
@@ -94,14 +94,19 @@ returns c =
       given-words layDirectories _ _ (f .0) _ is (p .ensures .1 ∙ ap (λ (l : List ℕ). wordsFor l (now (a .words))) laid),
     )
 
+same-length-4 : tie.Need-same-length-4
+same-length-4 c = search needs
+
 returns-2 : tie.Need-returns-2
 returns-2 c =
-    let g = c .before .before .before .before .before .before in
+    let p = c .before .before in
+    let m = p .before .before .before in
+    let g = m .before .before .before .before in
     let r = g .before .before .rules-of in
     let a = g .before .before .before .before .before .before .args in
-    let w = c .before .before .why .given in
+    let w = m .why .given in
     let is = ap (λ (r : Rules). enteredIn (walkOf 1 r (now (a .image)) (a .d)) 0) (sym (r .ensures)) ∙ refused-all _ _ _ (sym (ap toldGathered (w .1)) ∙ g .gather .ensures .0) in
-    (alone-number layDirectories _ _ (w .0 .0 .number) is, alone-words layDirectories _ _ (w .0 .0 .number) is)
+    (fault-number layDirectories _ _ (w .0 .0) _ is (p .put-fault .ensures .0), fault-words layDirectories _ _ (w .0 .0) _ is (p .put-fault .ensures .1))
 
 pub list-by-spec : {M : Type 1} → statement M
 list-by-spec =
@@ -119,9 +124,10 @@ list-by-spec =
     slice-aggregate-put
     put-requires
     enum-known-why
-    cast-result
+    put-fault-requires
     same-length
     same-length-2
     returns
     same-length-3
+    same-length-4
     returns-2)

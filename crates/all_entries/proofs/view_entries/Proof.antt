@@ -1,6 +1,6 @@
 use mathlib.Core.Path.{_≡_, sym, ap, _∙_}
 use denote.Ref.{now}
-use Rattle.lent.proofs.Laws.{given-number, given-words, alone-number, alone-words}
+use Rattle.lent.proofs.Laws.{given-number, given-words, fault-number, fault-words}
 use Rattle.window.specs.declared.Offset.{Offset}
 use Rattle.directory.specs.Directory.{toldDirectory}
 use Rattle.efs.specs.Rules.{rulesOf}
@@ -37,8 +37,8 @@ put-entries-requires c κs =
 enum-known-why : tie.Need-enum-known-why
 enum-known-why c = search needs
 
-cast-result : tie.Need-cast-result
-cast-result c = search needs
+put-fault-requires : tie.Need-put-fault-requires
+put-fault-requires c κs = search needs
 
 same-length : tie.Need-same-length
 same-length c = search needs
@@ -52,13 +52,17 @@ returns c =
     let gives = sym (asked f) ∙ ap toldDirectory (m .d .given .1) in
     (given-number (layEntries (rulesOf s) s) _ _ (m .d .given .0 .0) _ gives (p .0), given-words (layEntries (rulesOf s) s) _ _ (m .d .given .0 .0) _ gives (p .1))
 
+same-length-2 : tie.Need-same-length-2
+same-length-2 c = search needs
+
 returns-2 : tie.Need-returns-2
 returns-2 c =
-    let m = c .before .before in
+    let p = c .before .before in
+    let m = p .before .before .before in
     let f = m .before .before in
     let s = now (f .before .before .before .before .args .image) in
     let refuses = sym (asked f) ∙ ap toldDirectory (m .why .given .1) in
-    (alone-number (layEntries (rulesOf s) s) _ _ _ refuses, alone-words (layEntries (rulesOf s) s) _ _ _ refuses)
+    (fault-number (layEntries (rulesOf s) s) _ _ (m .why .given .0 .0) _ refuses (p .put-fault .ensures .0), fault-words (layEntries (rulesOf s) s) _ _ (m .why .given .0 .0) _ refuses (p .put-fault .ensures .1))
 
 pub view-entries-spec : {M : Type 1} → statement M
 view-entries-spec =
@@ -69,7 +73,8 @@ view-entries-spec =
     enum-known-d
     put-entries-requires
     enum-known-why
-    cast-result
+    put-fault-requires
     same-length
     returns
+    same-length-2
     returns-2)

@@ -45,8 +45,8 @@ add-if6-2 c = search needs
 returns-5 : tie.Need-returns-5
 returns-5 c = search room-cases
 
-add-t22 : tie.Need-add-t22
-add-t22 c = search needs
+add-t27 : tie.Need-add-t27
+add-t27 c = search needs
 
 returns-6 : tie.Need-returns-6
 returns-6 c = search room-cases
@@ -72,6 +72,6 @@ room-for-spec =
     add-if6
     add-if6-2
     returns-5
-    add-t22
+    add-t27
     returns-6
     returns-7)

@@ -2,10 +2,10 @@ use mathlib.Core.Path.{refl, sym, ap, _∙_}
 use native.Mathlib.Omega.{arith}
 use denote.Ref.{now}
 use Rattle.lent.specs.Lent.{numberLeft, wordsLeft, bytesLeft, layNumber}
-use Rattle.lent.proofs.Laws.{given-number, given-words, alone-number, alone-words}
+use Rattle.lent.proofs.Laws.{given-number, given-words, fault-number, fault-words}
 use Rattle.build.specs.Write.{toldTotal, extendOf, extendedBy}
 use Rattle.build_words.specs.Writing.{fieldsFor}
-use Rattle.lent.proofs.Changed.{given-bytes, alone-bytes, no-words, words-none, bytes-none}
+use Rattle.lent.proofs.Changed.{given-bytes, kept-bytes, no-words, words-none, bytes-none}
 use borrow.Author.Needs.{needs}
 use Rattle.build_words.proofs.extend.Statement.{statement}
 use Rattle.build_words.proofs.extend.Tie as tie
@@ -45,8 +45,8 @@ put-requires c κs = search needs
 enum-known-why : tie.Need-enum-known-why
 enum-known-why c = search needs
 
-cast-result : tie.Need-cast-result
-cast-result c = search needs
+put-fault-requires : tie.Need-put-fault-requires
+put-fault-requires c κs = search needs
 
 same-length-2 : tie.Need-same-length-2
 same-length-2 c = search needs
@@ -68,15 +68,20 @@ returns-2 c =
 same-length-4 : tie.Need-same-length-4
 same-length-4 c = search needs
 
+same-length-5 : tie.Need-same-length-5
+same-length-5 c = search needs
+
 returns-3 : tie.Need-returns-3
 returns-3 c =
-    let a = c .before .before .before .before .before .before .before .before .before .before .before .args in
+    let a = c .before .before .before .before .before .before .before .before .before .before .before .before .before .before .args in
     let f = fieldsFor (a .class) (a .sub) (a .size) (a .location) (a .mode) in
     let d = extendOf f (now (a .buf)) in
     let after = extendedBy f (now (a .buf)) in
-    let e = c .before .before .before .before .before .before .extend .ensures in
-    let gives = sym (e .0) ∙ ap toldTotal (c .before .before .why .given .1) in
-    (alone-number layNumber _ _ _ gives, (alone-words layNumber _ _ _ gives, e .1 ∙ alone-bytes layNumber d after (now (a .buf)) (now (a .words)) _ gives))
+    let e = c .before .before .before .before .before .before .before .before .before .extend .ensures in
+    let w = c .before .before .before .before .before .why .given in
+    let gives = sym (e .0) ∙ ap toldTotal (w .1) in
+    let p = c .before .before .put-fault .ensures in
+    (fault-number layNumber _ _ (w .0 .0) _ gives (p .0), (fault-words layNumber _ _ (w .0 .0) _ gives (p .1), e .1 ∙ kept-bytes layNumber d after (now (a .buf)) (now (a .words)) (ap after gives)))
 
 pub extend-spec : {M : Type 1} → statement M
 extend-spec =
@@ -91,9 +96,10 @@ extend-spec =
     slice-aggregate-put
     put-requires
     enum-known-why
-    cast-result
+    put-fault-requires
     same-length-2
     same-length-3
     returns-2
     same-length-4
+    same-length-5
     returns-3)

@@ -5,12 +5,11 @@ use native.Mathlib.Omega.{arith}
 use borrow.Author.Needs.{needs}
 use borrow.Author.Tests.{leb-false}
 use denote.Ref.{now}
-use lib.ListN.{length, getD}
+use lib.ListN.{length}
 use lib.Dec.{leb}
 use Rattle.le.specs.Le.{Bytes}
 use Rattle.reply.specs.Some.{someBelow}
 use Rattle.reply.proofs.SomeLaws.{some-more, some-none}
-use Rattle.marks.specs.Marks.{bitOf, keptAs}
 use Rattle.marks.proofs.Marks.{Marks, marks-none, marks-step}
 use Rattle.directory.specs.Looks.{headAt, faultyHead, badAt}
 use Rattle.directory.proofs.Heads.{mark-tells}
@@ -104,9 +103,7 @@ loop-again c =
           let small : p < 4096 = leb-false _ _ (one .0) in
           let place : m .before .cell .result % 64 ≡ p / 64 = omega (arith, cell) in
           let old = l .loop .inv .2 (third .1) in
-          let mark =
-          m .marked .ensures ∙ ap₂ (λ (w q : ℕ). bitOf (keptAs (getD seen w 0)) (q % 64)) (place ∙ ap (λ (x : ℕ). x / 64) pair) pair
-          ∙ mark-tells (a .kind) s o bytes 64 i seen (let z : headAt (a .kind) s o i % 65536 < 4096 = omega (arith, pair) in z) (old .1) in (
+          let mark = m .marked .ensures ∙ mark-tells (a .kind) s o bytes 64 i p (m .before .cell .result % 64) seen pair small place (old .1) in (
             some-more (badAt (a .kind) (a .level) s o) i ∙ ap₂ _||_ (ap₂ _||_ (sym fault ∙ second .0) (sym mark ∙ one .1)) (old .0),
             marks-step 64 (λ j. headAt (a .kind) s o j % 65536) i seen p (m .before .cell .result % 64) (c .with-mark .result) (l .loop .inv .1) (old .1) pair small place (c .with-mark .ensures),
           ),

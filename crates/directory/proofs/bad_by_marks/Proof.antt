@@ -1,14 +1,13 @@
 use mathlib.Core.Path.{_≡_, refl, sym, ap, ap₂, _∙_}
 use mathlib.Core.Bool.{Bool, _||_}
-use Prim.Native.Nat.{ℕ, _-_, _/_, _%_, _≤_}
+use Prim.Native.Nat.{ℕ, _-_, _%_, _≤_}
 use native.Mathlib.Omega.{arith}
 use borrow.Author.Needs.{needs}
 use denote.Ref.{now}
-use lib.ListN.{length, getD}
+use lib.ListN.{length}
 use Rattle.le.specs.Le.{Bytes}
 use Rattle.reply.specs.Some.{someBelow}
 use Rattle.reply.proofs.SomeLaws.{some-more, some-none}
-use Rattle.marks.specs.Marks.{bitOf, keptAs}
 use Rattle.marks.proofs.Marks.{Marks, marks-none, marks-step}
 use Rattle.directory.specs.Looks.{headAt, faultyHead, badAt}
 use Rattle.directory.proofs.Heads.{mark-tells}
@@ -83,16 +82,17 @@ loop-again c =
     let i = l .loop .i in
     let seen = l .loop .seen in
     let bytes : Bytes s = λ j. l .before .shared-slice-known .given j .fits in
+    let p = h .head-at .result % 65536 in
     let head = h .head-at .ensures in
+    let pair = ap (λ (x : ℕ). x % 65536) head in
+    let w = m .before .before .cell .result in
     let cell = m .before .before .cell .ensures .0 in
-    let mark =
-    m .marked .ensures ∙ ap₂ (λ (w p : ℕ). bitOf (keptAs (getD seen w 0)) (p % 64)) (cell ∙ ap (λ (x : ℕ). x % 65536 / 64) head) (ap (λ (x : ℕ). x % 65536) head)
-    ∙ mark-tells (a .kind) s o bytes 1024 i seen (omega arith) (l .loop .inv .3) in
+    let mark = m .marked .ensures ∙ mark-tells (a .kind) s o bytes 1024 i p w seen pair (omega arith) cell (l .loop .inv .3) in
     let fault = m .before .faulty-head .ensures ∙ ap (faultyHead (a .kind) (a .level)) head in (
       omega arith,
       search needs,
       c .before .either2 .ensures ∙ ap₂ _||_ (c .before .before .either .ensures ∙ ap₂ _||_ fault mark) (l .loop .inv .2) ∙ sym (some-more (badAt (a .kind) (a .level) s o) i),
-      marks-step 1024 (λ j. headAt (a .kind) s o j % 65536) i seen (h .head-at .result % 65536) (m .before .before .cell .result) (c .with-mark .result) (l .loop .inv .1) (l .loop .inv .3) (ap (λ (x : ℕ). x % 65536) head) (omega arith) cell (c .with-mark .ensures),
+      marks-step 1024 (λ j. headAt (a .kind) s o j % 65536) i seen p w (c .with-mark .result) (l .loop .inv .1) (l .loop .inv .3) pair (omega arith) cell (c .with-mark .ensures),
     )
 
 returns : tie.Need-returns Inv-loop μ-loop

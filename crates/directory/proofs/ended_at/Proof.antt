@@ -8,7 +8,7 @@ use denote.Ref.{now}
 use lib.ListN.{length}
 use lib.Dec.{ltb, eqb}
 use Rattle.le.specs.Le.{Bytes, bitsFrom}
-use Rattle.reply.specs.Reply.{Reply, given, refused, alone}
+use Rattle.reply.specs.Reply.{Reply, given, refused, inEntry}
 use Rattle.directory.specs.Directory.{entryPlace, reservedZero, directoryOf}
 use Rattle.directory.specs.declared.Directory.{Directory}
 use Rattle.directory.proofs.Heads.{head-reserved}
@@ -33,7 +33,7 @@ returns c =
     let zero =
     sym (ap (λ (h : ℕ). eqb (bitsFrom (a .kind .used) (h / 65536)) 0) (c .before .before .head-at .ensures) ∙ ap (λ (x : ℕ). eqb (bitsFrom (a .kind .used) x) 0) (head-reserved (a .kind) (now (a .image)) (a .at .0) bytes (a .end)))
     ∙ sym (c .before .reserved-zero .ensures) ∙ c .if2 .taken in
-    sym (ap₂ (λ (t z : Bool). cond t (refused (cond z 14 5) alone) (given (directoryOf (a .at .0) (a .level) (a .n)))) (lt-ltb (a .end) (a .n) (omega arith)) zero)
+    sym (ap₂ (λ (t z : Bool). cond t (refused (cond z 14 5) (inEntry (a .level) (a .end) (a .at .0))) (given (directoryOf (a .at .0) (a .level) (a .n)))) (lt-ltb (a .end) (a .n) (omega arith)) zero)
 
 returns-2 : tie.Need-returns-2
 returns-2 c =
@@ -43,12 +43,12 @@ returns-2 c =
     let set =
     sym (ap (λ (h : ℕ). eqb (bitsFrom (a .kind .used) (h / 65536)) 0) (c .before .before .head-at .ensures) ∙ ap (λ (x : ℕ). eqb (bitsFrom (a .kind .used) x) 0) (head-reserved (a .kind) (now (a .image)) (a .at .0) bytes (a .end)))
     ∙ sym (c .before .reserved-zero .ensures) ∙ c .if2 .left in
-    sym (ap₂ (λ (t z : Bool). cond t (refused (cond z 14 5) alone) (given (directoryOf (a .at .0) (a .level) (a .n)))) (lt-ltb (a .end) (a .n) (omega arith)) set)
+    sym (ap₂ (λ (t z : Bool). cond t (refused (cond z 14 5) (inEntry (a .level) (a .end) (a .at .0))) (given (directoryOf (a .at .0) (a .level) (a .n)))) (lt-ltb (a .end) (a .n) (omega arith)) set)
 
 returns-3 : tie.Need-returns-3
 returns-3 c =
     let a = c .before .before .args in
-    sym (ap (λ (t : Bool). cond t (refused (cond (reservedZero (a .kind) (now (a .image)) (a .at .0) (a .end)) 14 5) alone) (given (directoryOf (a .at .0) (a .level) (a .n)))) (le-ltb (a .end) (a .n) (omega arith)))
+    sym (ap (λ (t : Bool). cond t (refused (cond (reservedZero (a .kind) (now (a .image)) (a .at .0) (a .end)) 14 5) (inEntry (a .level) (a .end) (a .at .0))) (given (directoryOf (a .at .0) (a .level) (a .n)))) (le-ltb (a .end) (a .n) (omega arith)))
 
 pub ended-at-spec : {M : Type 1} → statement M
 ended-at-spec =

@@ -1,11 +1,12 @@
 use mathlib.Core.Path.{_≡_, sym, ap, subst, _∙_}
 use mathlib.Core.Bool.{Bool}
-use Prim.Native.Nat.{ℕ}
+use Prim.Native.Nat.{ℕ, _+_, _*_, _≤_}
 use native.Mathlib.Omega.{arith}
 use borrow.Author.Needs.{needs}
 use denote.Ref.{now}
 use lib.ListN.{length}
 use Rattle.le.specs.Le.{Bytes}
+use Rattle.reply.specs.Reply.{refused, inEntry}
 use Rattle.reply.specs.Some.{someBelow, firstBelow}
 use Rattle.reply.proofs.SomeLaws.{Found, first-found}
 use Rattle.directory.specs.Looks.{faultyAt, badAt}
@@ -34,23 +35,34 @@ some-bad-requires c κs = search needs
 first-fault-requires-2 : tie.Need-first-fault-requires-2
 first-fault-requires-2 c κs = search needs
 
+-- the first entry at fault by itself, and those before it
+found : (c : tie.After-first-fault2) → let a = c .before .before .before .before .before .args in Found (faultyAt (a .kind) (a .level) (now (a .image)) (a .at .0)) (a .n) (c .first-fault2 .result)
+found c =
+    let a = c .before .before .before .before .before .args in
+    let faulty = faultyAt (a .kind) (a .level) (now (a .image)) (a .at .0) in
+    subst (Found faulty (a .n)) (sym (c .first-fault2 .ensures)) (first-found faulty (a .n))
+
+fewer : (c : tie.After-first-fault2) → let a = c .before .before .before .before .before .args in a .at .0 + 16 + c .first-fault2 .result * a .kind .entry ≤ length (now (a .image))
+fewer c =
+    let f = c .before .before .before .before .before in
+    let a = f .args in
+    fewer-inside (a .kind) (a .at .0) (a .n) (c .first-fault2 .result) (length (now (a .image))) (f .pre) (found c .within)
+
 some-bad-requires-2 : tie.Need-some-bad-requires-2
-some-bad-requires-2 c κs =
-    let f = c .before .before .before .before in
-    let a = f .before .args in
-    let s = now (a .image) in
-    let end = subst (Found (faultyAt (a .kind) (a .level) s (a .at .0)) (a .n)) (sym (c .first-fault2 .ensures)) (first-found (faultyAt (a .kind) (a .level) s (a .at .0)) (a .n)) in
-    fewer-inside (a .kind) (a .at .0) (a .n) (c .first-fault2 .result) (length s) (f .before .pre) (end .within)
+some-bad-requires-2 c κs = fewer c
+
+first-repeat-requires : tie.Need-first-repeat-requires
+first-repeat-requires c κs = fewer (c .before .before)
 
 returns-2 : tie.Need-returns-2
 returns-2 c =
-    let g = c .before .before in
+    let g = c .before .before .before in
     let f = g .before .before .before .before in
     let a = f .before .args in
     let s = now (a .image) in
     let bytes : Bytes s = λ j. f .shared-slice-known .given j .fits in
-    let end = subst (Found (faultyAt (a .kind) (a .level) s (a .at .0)) (a .n)) (sym (g .first-fault2 .ensures)) (first-found (faultyAt (a .kind) (a .level) s (a .at .0)) (a .n)) in
-    ends-repeated (a .kind) (a .level) s (a .at .0) (a .n) bytes (g .first-fault2 .result) (end .within) (end .before) (g .before .before .before .if1 .left) (sym (c .before .some-bad2 .ensures) ∙ c .if3 .taken)
+    ap (λ (k : ℕ). refused 18 (inEntry (a .level) k (a .at .0))) (c .first-repeat .ensures)
+    ∙ ends-repeated (a .kind) (a .level) s (a .at .0) (a .n) bytes (g .first-fault2 .result) (found g) (g .before .before .before .if1 .left) (sym (c .before .before .some-bad2 .ensures) ∙ c .before .if3 .taken)
 
 ended-at-requires-2 : tie.Need-ended-at-requires-2
 ended-at-requires-2 c κs = search needs
@@ -62,8 +74,7 @@ returns-3 c =
     let a = f .before .args in
     let s = now (a .image) in
     let bytes : Bytes s = λ j. f .shared-slice-known .given j .fits in
-    let end = subst (Found (faultyAt (a .kind) (a .level) s (a .at .0)) (a .n)) (sym (g .first-fault2 .ensures)) (first-found (faultyAt (a .kind) (a .level) s (a .at .0)) (a .n)) in
-    c .ended-at2 .ensures ∙ ends-first (a .kind) (a .level) s (a .at .0) (a .n) bytes (g .first-fault2 .result) end (sym (c .before .before .some-bad2 .ensures) ∙ c .before .if3 .left)
+    c .ended-at2 .ensures ∙ ends-first (a .kind) (a .level) s (a .at .0) (a .n) bytes (g .first-fault2 .result) (found g) (sym (c .before .before .some-bad2 .ensures) ∙ c .before .if3 .left)
 
 ended-at-requires-3 : tie.Need-ended-at-requires-3
 ended-at-requires-3 c κs = search needs
@@ -87,6 +98,7 @@ entries-at-spec =
     some-bad-requires
     first-fault-requires-2
     some-bad-requires-2
+    first-repeat-requires
     returns-2
     ended-at-requires-2
     returns-3

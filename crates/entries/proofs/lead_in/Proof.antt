@@ -8,7 +8,8 @@ use denote.Ref.{now}
 use Rattle.reply.specs.Reply.{given, refused, alone}
 use Rattle.reply.specs.Scan.{scan}
 use Rattle.reply.proofs.ScanLaws.{scan-start, scan-end, scan-stop, scan-pass}
-use Rattle.entries.specs.Entry.{entryOf, leadStep, leadIn}
+use Rattle.entries.specs.Entry.{entryOf, leadOf, leadStep, leadIn}
+use Rattle.entries.specs.declared.Entry.{Entry}
 use Rattle.entries.proofs.Cases.{told, lead-told}
 use Rattle.entries.proofs.lead_in.Statement.{statement}
 use Rattle.entries.proofs.lead_in.Tie as tie
@@ -45,7 +46,7 @@ returns c =
     let d = told (l .before .place .result) n in
     let i = l .loop .i in
     let hit = eq-eqb (entryOf (a .kind) (now (a .image)) d i .class) (a .kind .lead) (sym (c .before .before .before .class-at .ensures) ∙ c .before .if1 .taken) in
-    sym (scan-stop (leadStep (a .kind) (now (a .image)) d) (λ _. refused 8 alone) n i (given (c .fields-at .result)) (omega arith) (λ rest. ap (λ (b : Bool). cond b (given (entryOf (a .kind) (now (a .image)) d i)) rest) hit ∙ ap given (sym (c .fields-at .ensures)))) ∙ l .loop .inv .1
+    sym (scan-stop (leadStep (a .kind) (now (a .image)) d) (λ _. refused 8 alone) n i (given (record { index = i; entry = c .fields-at .result })) (omega arith) (λ rest. ap (λ (b : Bool). cond b (given (leadOf (a .kind) (now (a .image)) d i)) rest) hit ∙ ap (λ (e : Entry). given (record { index = i; entry = e })) (sym (c .fields-at .ensures)))) ∙ l .loop .inv .1
     ∙ lead-told (a .kind) (now (a .image)) (a .d) _ _ (l .before .place .ensures) (l .before .before .total .ensures)
 
 add-i : tie.Need-add-i Inv-loop μ-loop
@@ -62,7 +63,7 @@ loop-again c =
     let d = told (l .before .place .result) n in
     let i = l .loop .i in
     let miss = ne-eqb (entryOf (a .kind) (now (a .image)) d i .class) (a .kind .lead) (λ q. c .if1 .left (c .before .before .class-at .ensures ∙ q)) in
-    (omega arith, sym (scan-pass (leadStep (a .kind) (now (a .image)) d) (λ _. refused 8 alone) n i (omega arith) (λ rest. ap (λ (b : Bool). cond b (given (entryOf (a .kind) (now (a .image)) d i)) rest) miss)) ∙ l .loop .inv .1)
+    (omega arith, sym (scan-pass (leadStep (a .kind) (now (a .image)) d) (λ _. refused 8 alone) n i (omega arith) (λ rest. ap (λ (b : Bool). cond b (given (leadOf (a .kind) (now (a .image)) d i)) rest) miss)) ∙ l .loop .inv .1)
 
 returns-2 : tie.Need-returns-2 Inv-loop μ-loop
 returns-2 c =

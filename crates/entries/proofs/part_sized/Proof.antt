@@ -1,9 +1,11 @@
-use mathlib.Core.Path.{_≡_, ap, _∙_}
-use Rattle.window.specs.declared.Offset.{Offset}
+use mathlib.Core.Path.{_≡_, sym, ap, _∙_}
+use native.Mathlib.Omega.{arith}
 use denote.Ref.{now}
+use Rattle.reply.specs.Reply.{inEntry, met}
 use Rattle.reply.proofs.ReplyLaws.{then-told}
 use Rattle.entries.specs.Entry.{toldEntry}
 use Rattle.entries.specs.Part.{partOf}
+use Rattle.entries.proofs.Accept.{only-entry}
 use borrow.Author.Needs.{needs}
 use Rattle.entries.proofs.part_sized.Statement.{statement}
 use Rattle.entries.proofs.part_sized.Tie as tie
@@ -14,22 +16,27 @@ entry-in-requires c κs = search needs
 enum-known-e : tie.Need-enum-known-e
 enum-known-e c = search needs
 
-place-requires : tie.Need-place-requires
-place-requires c κs = search needs
+-- an entry that is given stands below the total, a number of 32 bits
+cast-part-met : tie.Need-cast-part-met
+cast-part-met c =
+    let l = c .before .before .before in
+    let s = l .before .before in
+    let a = s .args in
+    let e = c .before .e .given in
+    omega (arith, s .good .1 .1 .1 .0, only-entry (a .kind) (now (a .image)) (a .d) (a .i) (e .0 .0) (sym (l .entry-in .ensures) ∙ ap toldEntry (e .1)) .0)
 
-part-of-requires : tie.Need-part-of-requires
-part-of-requires c κs = search needs
+part-met-requires : tie.Need-part-met-requires
+part-met-requires c κs = search needs
 
 enum-known-why : tie.Need-enum-known-why
 enum-known-why c = search needs
 
 returns : tie.Need-returns
 returns c =
-    let l = c .before .before .before .before .before in
+    let l = c .before .before .before .before in
     let a = l .before .before .args in
-    let e = c .before .before .before .e .given in
-    c .part-of .ensures ∙ ap (λ (o : Offset). partOf (a .kind) (a .window) (now (a .image)) (o .0) (e .0 .0)) (c .before .place .ensures)
-    ∙ then-told toldEntry (partOf (a .kind) (a .window) (now (a .image)) (a .d .place .0)) (e .1) (l .entry-in .ensures)
+    c .part-met .ensures
+    ∙ then-told toldEntry (λ e. met (inEntry (a .d .level) (a .i) (a .d .place .0)) (partOf (a .kind) (a .window) (now (a .image)) (a .d .place .0) e)) (c .before .before .e .given .1) (l .entry-in .ensures)
 
 returns-2 : tie.Need-returns-2
 returns-2 c = then-told toldEntry _ (c .before .why .given .1) (c .before .before .before .entry-in .ensures)
@@ -37,4 +44,4 @@ returns-2 c = then-told toldEntry _ (c .before .why .given .1) (c .before .befor
 pub part-sized-spec : {M : Type 1} → statement M
 part-sized-spec =
     tie.close
-    (tie.spec entry-in-requires enum-known-e place-requires part-of-requires enum-known-why returns returns-2)
+    (tie.spec entry-in-requires enum-known-e cast-part-met part-met-requires enum-known-why returns returns-2)

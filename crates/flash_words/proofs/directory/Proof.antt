@@ -1,5 +1,5 @@
 use mathlib.Core.Path.{_≡_, sym, ap, _∙_}
-use Rattle.lent.proofs.Laws.{given-number, given-words, alone-number, alone-words}
+use Rattle.lent.proofs.Laws.{given-number, given-words, fault-number, fault-words}
 use Rattle.reply.specs.Reply.{given}
 use Rattle.directory.specs.Directory.{toldDirectory}
 use Rattle.directory.specs.declared.Directory.{Directory}
@@ -41,8 +41,8 @@ put-requires c κs = search needs
 enum-known-why : tie.Need-enum-known-why
 enum-known-why c = search needs
 
-cast-result : tie.Need-cast-result
-cast-result c = search needs
+put-fault-requires : tie.Need-put-fault-requires
+put-fault-requires c κs = search needs
 
 same-length : tie.Need-same-length
 same-length c = search needs
@@ -60,11 +60,15 @@ returns c =
     let p = c .before .before .put in
     (given-number layDirectory _ _ told _ is (p .ensures .0), given-words layDirectory _ _ told _ is (p .ensures .1))
 
+same-length-2 : tie.Need-same-length-2
+same-length-2 c = search needs
+
 returns-2 : tie.Need-returns-2
 returns-2 c =
-    let g = c .before .before .why .given in
-    let is = sym (c .before .before .before .before .directory .ensures) ∙ ap toldDirectory (g .1) in
-    (alone-number layDirectory _ _ (g .0 .0 .number) is, alone-words layDirectory _ _ (g .0 .0 .number) is)
+    let p = c .before .before in
+    let m = p .before .before .before in
+    let refuses = sym (m .before .before .directory .ensures) ∙ ap toldDirectory (m .why .given .1) in
+    (fault-number layDirectory _ _ (m .why .given .0 .0) _ refuses (p .put-fault .ensures .0), fault-words layDirectory _ _ (m .why .given .0 .0) _ refuses (p .put-fault .ensures .1))
 
 pub directory-spec : {M : Type 1} → statement M
 directory-spec =
@@ -81,7 +85,8 @@ directory-spec =
     slice-aggregate-put
     put-requires
     enum-known-why
-    cast-result
+    put-fault-requires
     same-length
     returns
+    same-length-2
     returns-2)

@@ -6,8 +6,6 @@ use lib.ListN.{length}
 use Rattle.lent.proofs.Laws.{number-12, words-12, number-fits, copy-step, copy-end, copied}
 use Rattle.lent.proofs.put.Statement.{statement}
 use Rattle.lent.proofs.put.Tie as tie
-use Rattle.lent.proofs.put.Reads as reads
-use Rattle.lent.proofs.put.Lts as lts
 
 abbrev Inv-loop : tie.InvT-loop
 Inv-loop words₀ number values i₀ words i = (i ≤ length values) × (length values ≤ length words₀) × (length words ≡ length words₀) × (words ≡ copied values words₀ i)
@@ -15,47 +13,36 @@ Inv-loop words₀ number values i₀ words i = (i ≤ length values) × (length 
 abbrev μ-loop : tie.MeasureT-loop
 μ-loop words₀ number values i₀ words i = length values - i
 
--- src/lib.rt:15:9
 returns : tie.Need-returns Inv-loop μ-loop
 returns c = (search number-12, search words-12)
 
--- src/lib.rt:18:5
 loop-holds : tie.Need-loop-holds Inv-loop μ-loop
 loop-holds c = (omega arith, omega arith, refl, refl)
 
--- src/lib.rt:19:20
 mul-words : tie.Need-mul-words Inv-loop μ-loop
 mul-words c = search needs
 
--- src/lib.rt:19:20
 shared-slice-read-words : tie.Need-shared-slice-read-words Inv-loop μ-loop
 shared-slice-read-words c = search needs
 
--- src/lib.rt:19:9
 mul-words-2 : tie.Need-mul-words-2 Inv-loop μ-loop
 mul-words-2 c = search needs
 
--- src/lib.rt:19:9
 slice-write-words : tie.Need-slice-write-words Inv-loop μ-loop
 slice-write-words c = search needs
 
--- src/lib.rt:20:13
 add-i : tie.Need-add-i Inv-loop μ-loop
 add-i c = search needs
 
--- src/lib.rt:18:5
 loop-less : tie.Need-loop-less Inv-loop μ-loop
 loop-less c = omega arith
 
--- src/lib.rt:18:5
 loop-again : tie.Need-loop-again Inv-loop μ-loop
 loop-again c = (omega arith, omega arith, search needs, search (needs, copy-step))
 
--- src/lib.rt:10:1
 same-length : tie.Need-same-length Inv-loop μ-loop
 same-length c = search needs
 
--- src/lib.rt:10:1
 returns-2 : tie.Need-returns-2 Inv-loop μ-loop
 returns-2 c = (search (needs, number-fits), search (needs, copy-end))
 

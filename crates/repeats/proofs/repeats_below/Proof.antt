@@ -1,8 +1,8 @@
 use mathlib.Core.Path.{_≡_, sym, ap, _∙_}
 use denote.Ref.{now}
-use Rattle.reply.proofs.ReplyLaws.{passed, then-told}
+use Rattle.reply.proofs.ReplyLaws.{then-told}
 use Rattle.directory.specs.declared.Kind.{Kind}
-use Rattle.entries.specs.Entry.{leadIn, toldEntry}
+use Rattle.entries.specs.Entry.{leadIn, toldLead}
 use Rattle.efs.specs.Rules.{rulesOf}
 use Rattle.repeats.specs.Repeats.{repeatsLed}
 use borrow.Author.Needs.{needs}
@@ -15,8 +15,8 @@ psp-kind-requires c κs = search needs
 lead-in-requires : tie.Need-lead-in-requires
 lead-in-requires c κs = search needs
 
-enum-known-e : tie.Need-enum-known-e
-enum-known-e c = search needs
+enum-known-l : tie.Need-enum-known-l
+enum-known-l c = search needs
 
 repeats-led-requires : tie.Need-repeats-led-requires
 repeats-led-requires c κs = search needs
@@ -27,11 +27,10 @@ enum-known-why c = search needs
 returns : tie.Need-returns
 returns c =
     let l = c .before .before .before .before in
-    let b = l .before .before .before in
-    let a = b .args in
+    let a = l .before .before .before .args in
     let s = now (a .image) in
     let lead = l .lead-in .ensures ∙ ap (λ (k : Kind). leadIn k s (a .d)) (l .before .psp-kind .ensures) in
-    c .repeats-led .ensures ∙ passed _ _ _ _ (b .pre) ∙ then-told toldEntry (repeatsLed (rulesOf s) s (a .d)) (c .before .before .e .given .1) lead
+    c .repeats-led .ensures ∙ then-told toldLead (repeatsLed (rulesOf s) s (a .d)) (c .before .before .l .given .1) lead
 
 returns-2 : tie.Need-returns-2
 returns-2 c =
@@ -39,7 +38,7 @@ returns-2 c =
     let a = l .before .before .before .args in
     let s = now (a .image) in
     let lead = l .lead-in .ensures ∙ ap (λ (k : Kind). leadIn k s (a .d)) (l .before .psp-kind .ensures) in
-    then-told toldEntry (repeatsLed (rulesOf s) s (a .d)) (c .before .why .given .1) lead
+    then-told toldLead (repeatsLed (rulesOf s) s (a .d)) (c .before .why .given .1) lead
 
 pub repeats-below-spec : {M : Type 1} → statement M
 repeats-below-spec =
@@ -47,7 +46,7 @@ repeats-below-spec =
     (tie.spec
     psp-kind-requires
     lead-in-requires
-    enum-known-e
+    enum-known-l
     repeats-led-requires
     enum-known-why
     returns

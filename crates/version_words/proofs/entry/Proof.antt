@@ -4,7 +4,7 @@ use Prim.Native.Nat.{ℕ}
 use denote.Ref.{now}
 use Rattle.reply.specs.Reply.{Reply}
 use Rattle.lent.specs.Lent.{numberLeft, wordsLeft, layNumber}
-use Rattle.lent.proofs.Laws.{alone-number, alone-words}
+use Rattle.lent.proofs.Laws.{fault-number, fault-words}
 use Rattle.entries.specs.Part.{toldPart}
 use Rattle.efs.specs.Rules.{rulesOf}
 use Rattle.flash.specs.Flash.{flashPart}
@@ -28,8 +28,8 @@ version-requires c κs = search needs
 enum-known-why : tie.Need-enum-known-why
 enum-known-why c = search needs
 
-cast-result : tie.Need-cast-result
-cast-result c = search needs
+put-fault-requires : tie.Need-put-fault-requires
+put-fault-requires c κs = search needs
 
 same-length : tie.Need-same-length
 same-length c = search needs
@@ -45,14 +45,18 @@ returns c =
     let is = version-there s _ (flashPart (rulesOf s) (a .level) s (a .index)) _ (sym (f .part .ensures) ∙ ap toldPart (t .enum-told .given .1)) (b .bytes .ensures .0) in
     (v .version .ensures .0 ∙ ap (λ (r : Reply ℕ). numberLeft layNumber r (now (a .words))) is, v .version .ensures .1 ∙ ap (λ (r : Reply ℕ). wordsLeft layNumber r (now (a .words))) is)
 
+same-length-2 : tie.Need-same-length-2
+same-length-2 c = search needs
+
 returns-2 : tie.Need-returns-2
 returns-2 c =
-    let w = c .before .before in
-    let f = w .before .before in
+    let p = c .before .before in
+    let m = p .before .before .before in
+    let f = m .before .before in
     let a = f .before .before .before .args in
     let s = now (a .image) in
-    let none = version-none s (flashPart (rulesOf s) (a .level) s (a .index)) _ (sym (f .part .ensures) ∙ ap toldPart (w .why .given .1)) in
-    (alone-number layNumber _ _ _ none, alone-words layNumber _ _ _ none)
+    let none = version-none s (flashPart (rulesOf s) (a .level) s (a .index)) _ _ (sym (f .part .ensures) ∙ ap toldPart (m .why .given .1)) in
+    (fault-number layNumber _ _ (m .why .given .0 .0) _ none (p .put-fault .ensures .0), fault-words layNumber _ _ (m .why .given .0 .0) _ none (p .put-fault .ensures .1))
 
 pub entry-spec : {M : Type 1} → statement M
 entry-spec =
@@ -63,7 +67,8 @@ entry-spec =
     bytes-requires
     version-requires
     enum-known-why
-    cast-result
+    put-fault-requires
     same-length
     returns
+    same-length-2
     returns-2)

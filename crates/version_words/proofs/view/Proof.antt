@@ -4,7 +4,7 @@ use Prim.Native.Nat.{ℕ}
 use denote.Ref.{now}
 use Rattle.reply.specs.Reply.{Reply}
 use Rattle.lent.specs.Lent.{numberLeft, wordsLeft, layNumber}
-use Rattle.lent.proofs.Laws.{alone-number, alone-words}
+use Rattle.lent.proofs.Laws.{fault-number, fault-words}
 use Rattle.window.specs.declared.Offset.{Offset}
 use Rattle.entries.specs.Part.{toldPart, bytesOf}
 use Rattle.entries.specs.declared.Part.{Part}
@@ -34,8 +34,8 @@ version-requires c κs = search needs
 enum-known-why : tie.Need-enum-known-why
 enum-known-why c = search needs
 
-cast-result : tie.Need-cast-result
-cast-result c = search needs
+put-fault-requires : tie.Need-put-fault-requires
+put-fault-requires c κs = search needs
 
 same-length : tie.Need-same-length
 same-length c = search needs
@@ -52,15 +52,19 @@ returns c =
     let is = version-there s _ (partAt (rulesOf s) s (a .place) (a .i)) _ (sym (f .part-from .ensures ∙ near) ∙ ap toldPart (t .enum-told .given .1)) (b .bytes-from .ensures .0 ∙ ap (bytesOf s) near) in
     (v .version .ensures .0 ∙ ap (λ (r : Reply ℕ). numberLeft layNumber r (now (a .words))) is, v .version .ensures .1 ∙ ap (λ (r : Reply ℕ). wordsLeft layNumber r (now (a .words))) is)
 
+same-length-2 : tie.Need-same-length-2
+same-length-2 c = search needs
+
 returns-2 : tie.Need-returns-2
 returns-2 c =
-    let w = c .before .before in
-    let f = w .before .before in
+    let p = c .before .before in
+    let m = p .before .before .before in
+    let f = m .before .before in
     let a = f .before .before .before .before .args in
     let s = now (a .image) in
     let near = ap (λ (o : Offset). partAt (rulesOf s) s (o .0) (a .i)) (f .before .nearest .ensures) ∙ nearest-place .part (rulesOf s) s (a .place) (a .i) in
-    let none = version-none s (partAt (rulesOf s) s (a .place) (a .i)) _ (sym (f .part-from .ensures ∙ near) ∙ ap toldPart (w .why .given .1)) in
-    (alone-number layNumber _ _ _ none, alone-words layNumber _ _ _ none)
+    let none = version-none s (partAt (rulesOf s) s (a .place) (a .i)) _ _ (sym (f .part-from .ensures ∙ near) ∙ ap toldPart (m .why .given .1)) in
+    (fault-number layNumber _ _ (m .why .given .0 .0) _ none (p .put-fault .ensures .0), fault-words layNumber _ _ (m .why .given .0 .0) _ none (p .put-fault .ensures .1))
 
 pub view-spec : {M : Type 1} → statement M
 view-spec =
@@ -72,7 +76,8 @@ view-spec =
     bytes-from-requires
     version-requires
     enum-known-why
-    cast-result
+    put-fault-requires
     same-length
     returns
+    same-length-2
     returns-2)

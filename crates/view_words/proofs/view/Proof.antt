@@ -2,7 +2,7 @@ use mathlib.Core.Path.{_≡_, sym, ap, _∙_}
 use mathlib.Core.List.{List, [], _∷_}
 use denote.Ref.{now}
 use Rattle.lent.specs.Lent.{numberFor, wordsFor}
-use Rattle.lent.proofs.Laws.{given-number, given-words, alone-number, alone-words}
+use Rattle.lent.proofs.Laws.{given-number, given-words, fault-number, fault-words}
 use Rattle.directory.specs.Directory.{toldDirectory}
 use Rattle.window.specs.declared.Offset.{Offset}
 use Rattle.place.specs.Place.{heldPlace}
@@ -32,8 +32,8 @@ put-requires c κs = search needs
 enum-known-why : tie.Need-enum-known-why
 enum-known-why c = search needs
 
-cast-result : tie.Need-cast-result
-cast-result c = search needs
+put-fault-requires : tie.Need-put-fault-requires
+put-fault-requires c κs = search needs
 
 same-length : tie.Need-same-length
 same-length c = search needs
@@ -51,11 +51,15 @@ returns c =
       given-words layPlace _ _ (d .0 .0) _ gives (p .ensures .1 ∙ ap (λ (o : Offset). wordsFor (o .0 ∷ []) (now (a .words))) place),
     )
 
+same-length-2 : tie.Need-same-length-2
+same-length-2 c = search needs
+
 returns-2 : tie.Need-returns-2
 returns-2 c =
-    let w = c .before .before in
-    let refuses = sym (w .before .before .directory .ensures) ∙ ap toldDirectory (w .why .given .1) in
-    (alone-number layPlace _ _ _ refuses, alone-words layPlace _ _ _ refuses)
+    let p = c .before .before in
+    let m = p .before .before .before in
+    let refuses = sym (m .before .before .directory .ensures) ∙ ap toldDirectory (m .why .given .1) in
+    (fault-number layPlace _ _ (m .why .given .0 .0) _ refuses (p .put-fault .ensures .0), fault-words layPlace _ _ (m .why .given .0 .0) _ refuses (p .put-fault .ensures .1))
 
 pub view-spec : {M : Type 1} → statement M
 view-spec =
@@ -68,7 +72,8 @@ view-spec =
     slice-aggregate-put
     put-requires
     enum-known-why
-    cast-result
+    put-fault-requires
     same-length
     returns
+    same-length-2
     returns-2)

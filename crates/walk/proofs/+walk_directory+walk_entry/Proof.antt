@@ -509,7 +509,7 @@ walk-entry-returns-6 t c =
     let n = c .before .before .before .before .before .n .given in
     let q = sym (n .1) ∙ c .before .before .before .before .before .before .before .probe-entry .ensures in
     let w = c .before .why .given in
-    (enter-refused (a .depth) (a .by .rules) (now (a .image)) (a .d) (a .by .class) (a .by .sub) r (a .tested + (a .left - r)) (omega arith) (omega (arith, pb .ensures .0, c .before .before .before .before .before .before .before .before .before .before .before .pre)) (n .0 .0) q (w .0 .0 .number) (ap toldImageMatch (sym (w .1)) ∙ c .before .before .before .walk-directory .ensures)) ∙ pb .ensures .1
+    (enter-refused (a .depth) (a .by .rules) (now (a .image)) (a .d) (a .by .class) (a .by .sub) r (a .tested + (a .left - r)) (omega arith) (omega (arith, pb .ensures .0, c .before .before .before .before .before .before .before .before .before .before .before .pre)) (n .0 .0) q (w .0 .0) (ap toldImageMatch (sym (w .1)) ∙ c .before .before .before .walk-directory .ensures)) ∙ pb .ensures .1
 
 walk-entry-returns-7 : (t : ℕ) → walk-entry-lts.Need-returns-7 (
   pass-by-reads.Asked,

@@ -21,8 +21,13 @@ const LARGEST: u64 = 16 + 16 * 512;
 fn script(random: &mut Random, calls: u64) -> Script {
     let mut draft = Draft::default();
     while draft.len() < calls {
-        let mut there = prepare(random, &mut draft);
-        for _ in 0..2 + random.below(10) {
+        let (mut there, broken) = prepare(random, &mut draft);
+        let calls = match broken {
+            // They all meet the same.
+            true => 1 + random.below(3),
+            false => 2 + random.below(10),
+        };
+        for _ in 0..calls {
             draft.line("digest a");
             let call = match random.once_in(12) {
                 // Over what is there, which may be a directory.
@@ -37,8 +42,9 @@ fn script(random: &mut Random, calls: u64) -> Script {
     draft.script()
 }
 
-/// A buffer with a directory in it, started or given; mostly a good one. Gives the types and subprograms of its entries.
-fn prepare(random: &mut Random, draft: &mut Draft) -> BTreeSet<Pair> {
+/// A buffer with a directory in it, started or given; mostly a good one. Gives the types and subprograms of its entries, and whether
+/// something of it was broken.
+fn prepare(random: &mut Random, draft: &mut Draft) -> (BTreeSet<Pair>, bool) {
     let entries = match random.below(7) {
         0 => 508 + random.below(6),
         1 => random.below(40),
@@ -57,14 +63,22 @@ fn prepare(random: &mut Random, draft: &mut Draft) -> BTreeSet<Pair> {
         let call = format!("start a {}", level(random));
         draft.line("digest a");
         draft.ask(random, call);
-        return BTreeSet::new();
+        return (BTreeSet::new(), false);
     }
-    let mut directory = directory(random, entries);
-    for _ in 0..random.one_of(&[0, 0, 0, 0, 1, 2]) {
-        directory.break_one(random);
+    let good = directory(random, entries);
+    let mut directory = good.clone();
+    match random.below(6) {
+        0 if entries > 1 => directory.break_check(random),
+        0 | 1 => directory.break_one(random),
+        2 => {
+            directory.break_one(random);
+            directory.break_one(random);
+        }
+        _ => {}
     }
     let mut bytes = directory.bytes();
-    if random.once_in(8) {
+    let scattered = random.once_in(8);
+    if scattered {
         scatter(random, &mut bytes);
         if random.once_in(2) {
             repair(&mut bytes);
@@ -73,7 +87,8 @@ fn prepare(random: &mut Random, draft: &mut Draft) -> BTreeSet<Pair> {
     // Where the buffer is too short, so is what lies in it.
     bytes.truncate(room as usize);
     draft.line(format!("patch a 0 {}", hex(random, &bytes)));
-    directory.entries.iter().map(Entry::pair).collect()
+    let there = directory.entries.iter().map(Entry::pair).collect();
+    (there, scattered || directory != good)
 }
 
 /// A directory of either level with so many entries.

@@ -7,8 +7,8 @@ use std::collections::BTreeSet;
 pub const LEAD: u8 = 0x40;
 pub const VALUE: u8 = 0x0B;
 
-/// Types and subprograms that entries have and lookups ask for: few, so that they meet.
-pub const CLASSES: [u8; 8] = [0x00, 0x01, 0x02, 0x08, VALUE, 0x12, LEAD, 0xFF];
+/// Types and subprograms that entries have and lookups ask for: few, so that they meet. Two types differ in their highest bit alone.
+pub const CLASSES: [u8; 9] = [0x00, 0x01, 0x02, 0x08, VALUE, 0x12, LEAD, 0x82, 0xFF];
 pub const SUBPROGRAMS: [u8; 4] = [0, 0, 1, 0xFF];
 
 /// A type and a subprogram.
@@ -159,6 +159,27 @@ impl Directory {
             (7 | 8, Some(_)) => self.zero_a_half(random),
             (9, Some(_)) if last > 1 => repeat_one(random, &mut self.entries),
             _ => self.wrong = random.number() as u32,
+        }
+    }
+
+    /// Breaks one of the checks that come behind the directory's length, each as often as another. There are two entries or more.
+    pub fn break_check(&mut self, random: &mut Random) {
+        let at = random.below(self.entries.len() as u64) as usize;
+        match random.below(7) {
+            0 => {
+                let other = cookie(3 - level_of(&self.cookie));
+                self.cookie = random.one_of(&[other, *b"$BHD", [0; 4]]);
+            }
+            1 => self.total = random.one_of(&[513, 0xFFFF, u32::MAX]),
+            2 => self.wrong = 1 << random.below(32),
+            3 => self.reserved = 1 << random.below(32),
+            4 => self.entries[at].reserved = 1 << random.below(16),
+            5 => {
+                // In level one it is another that leads somewhere.
+                self.entries[at].class = LEAD;
+                self.entries[at].reserved |= u16::from(random.once_in(4));
+            }
+            _ => repeat_one(random, &mut self.entries),
         }
     }
 
@@ -338,6 +359,33 @@ mod tests {
         }
         assert!(halves.iter().all(|count| *count > 10), "{halves:?}");
         assert_eq!(halves.iter().sum::<u32>(), 40);
+    }
+
+    #[test]
+    fn every_check_is_broken_and_nothing_beside_it() {
+        let good = Directory::of(2, vec![entry_of(1, 0), entry_of(1, 1), entry_of(2, 0)]);
+        let mut amounts = [0; 7];
+        for seed in 0..350 {
+            let mut bad = good.clone();
+            bad.break_check(&mut Random::from_seed(seed));
+            let reserved = bad.entries.iter().any(|entry| entry.reserved != 0);
+            let broken = [
+                bad.cookie != good.cookie,
+                bad.total > 512,
+                bad.wrong != 0,
+                bad.reserved != 0,
+                reserved,
+                bad.entries.iter().any(|entry| entry.class == LEAD),
+                repeats(&bad.entries) > 0,
+            ];
+            for (amount, broken) in amounts.iter_mut().zip(broken) {
+                *amount += u32::from(broken);
+            }
+            // An entry that is a lead, or repeats, may have reserved bits as well.
+            let together = broken.iter().filter(|broken| **broken).count();
+            assert!(together == 1 || (together == 2 && broken[4] && (broken[5] || broken[6])));
+        }
+        assert!(amounts.iter().all(|amount| *amount > 25), "{amounts:?}");
     }
 
     #[test]

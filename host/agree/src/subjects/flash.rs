@@ -24,7 +24,7 @@ fn script(random: &mut Random, calls: u64) -> Script {
             for level in [1, 2] {
                 draft.line(format!("directory {name} {level}"));
             }
-            for _ in 0..8 + random.below(16) {
+            for _ in 0..image.calls(random) {
                 let call = call(random, &image, name);
                 draft.ask(random, call);
             }

@@ -1,7 +1,7 @@
 //! Random flash images: an EFS, level one, some directories of level two, and what breaks them.
 
 use super::damage::scatter;
-use super::directory::{repair, tell_apart, Directory, Entry, CLASSES, LEAD, SUBPROGRAMS};
+use super::directory::{repair, tell_apart, Directory, Entry, CLASSES, LEAD, SUBPROGRAMS, VALUE};
 use super::draft::Draft;
 use super::words::{hex, number};
 use crate::random::Random;
@@ -48,6 +48,8 @@ pub struct Image {
     parts: Vec<Part>,
     /// The part that was broken after the image was written.
     broken: Option<usize>,
+    /// Whether it is right but for one thing.
+    one_fault: bool,
     /// The directories and where they begin, the level one first.
     pub directories: Vec<(u64, Directory)>,
 }
@@ -55,11 +57,15 @@ pub struct Image {
 impl Image {
     /// Any image: mostly a good one, or one with one or two things broken.
     pub fn random(random: &mut Random) -> Image {
-        if random.once_in(16) {
+        if random.once_in(12) {
             return Image::without_efs(random);
         }
+        if random.once_in(2) {
+            let length = least_length(CANDIDATES[0]) + random.below(0x4000);
+            return Image::with_one_fault(random, length);
+        }
         let any = random.one_of(&CANDIDATES);
-        let (efs, length) = match random.below(32) {
+        let (efs, length) = match random.below(20) {
             // A length that boards have, or any: the candidate may lie below the window.
             0 => (any, random.one_of(&BOARDS)),
             1 => (any, 1 + random.below(MOST_BYTES)),
@@ -72,13 +78,7 @@ impl Image {
 
     /// An image of a length with an EFS at a candidate.
     fn with_efs(random: &mut Random, efs: u64, length: u64) -> Image {
-        let mut image = Image {
-            length,
-            efs: Some(efs),
-            parts: Vec::new(),
-            broken: None,
-            directories: Vec::new(),
-        };
+        let mut image = Image::bare(efs, length);
         image.add_directories(random);
         for _ in 0..random.one_of(&[0, 0, 0, 1, 1, 2]) {
             let at = random.below(image.directories.len() as u64) as usize;
@@ -88,13 +88,7 @@ impl Image {
         if image.directories.len() > 1 && random.once_in(3) {
             image.misplace_lead(random);
         }
-        for (place, directory) in &image.directories {
-            image.parts.push(Part {
-                place: *place,
-                bytes: directory.bytes(),
-                is_directory: true,
-            });
-        }
+        image.place_directories();
         if random.once_in(12) {
             for _ in 0..1 + random.below(3) {
                 let at = random.below(image.parts.len() as u64) as usize;
@@ -102,6 +96,85 @@ impl Image {
             }
         }
         image
+    }
+
+    /// A short image that is right but for one thing, in level one or in the level two that an entry of it leads to. Nothing else keeps the
+    /// calls from coming to it.
+    fn with_one_fault(random: &mut Random, length: u64) -> Image {
+        let efs = CANDIDATES[0];
+        let mut image = Image::bare(efs, length);
+        image.one_fault = true;
+        // Behind the EFS, which is in the first 0x4000 bytes, there is room for both.
+        let mut places = [0x8000, 0x1_0000].map(|first| first + random.below(0x4000));
+        let (at, fault) = (random.below(2) as usize, random.below(11));
+        match fault {
+            // Both have more bytes than these, so the image's end cuts it off.
+            0 => places[at] = length - 1 - random.below(47),
+            // To the image's end a lead may lead, and no further.
+            1 => places[1] = random.one_of(&[length, length + 1, 2 * length]),
+            _ => {}
+        }
+        let [one, two] = places;
+        for (level, place) in [(1, one), (2, two)] {
+            let amount = match random.below(12) {
+                // So that an index has more than eight bits.
+                0 => 250 + random.below(80),
+                _ => 2 + random.below(6),
+            };
+            let entries = (0..amount).map(|_| image.part_entry(random, place));
+            let mut entries: Vec<Entry> = entries.collect();
+            if fault == 2 && at + 1 == level as usize {
+                // The directory is good, and none of its entries has bytes.
+                let value = random.once_in(2);
+                for entry in &mut entries {
+                    match value {
+                        true => entry.class = VALUE,
+                        false => entry.word |= 3 << 62,
+                    }
+                }
+            }
+            if level == 1 {
+                let lead = image.lead_entry(random, place, two);
+                entries.insert(random.below(amount + 1) as usize, lead);
+            }
+            tell_apart(random, &mut entries);
+            image
+                .directories
+                .push((place, Directory::of(level, entries)));
+        }
+        // At 3 nothing is wrong.
+        if fault > 3 {
+            image.directories[at].1.break_check(random);
+        }
+        let mut bytes = vec![0; EFS_BYTES as usize];
+        bytes[..4].copy_from_slice(&[0xAA, 0x55, 0xAA, 0x55]);
+        bytes[0x14..0x18].copy_from_slice(&(one as u32).to_le_bytes());
+        image.parts.push(plain_part(efs - image.window(), bytes));
+        image.place_directories();
+        image
+    }
+
+    /// An image of a length that is to have an EFS at a candidate, before anything is in it.
+    fn bare(efs: u64, length: u64) -> Image {
+        Image {
+            length,
+            efs: Some(efs),
+            parts: Vec::new(),
+            broken: None,
+            one_fault: false,
+            directories: Vec::new(),
+        }
+    }
+
+    /// Makes parts of the directories.
+    fn place_directories(&mut self) {
+        for (place, directory) in &self.directories {
+            self.parts.push(Part {
+                place: *place,
+                bytes: directory.bytes(),
+                is_directory: true,
+            });
+        }
     }
 
     /// An image of a length on the edge of some rule, with no EFS, or half of one.
@@ -129,6 +202,7 @@ impl Image {
             efs: None,
             parts,
             broken: None,
+            one_fault: false,
             directories: vec![(0, Directory::of(1, Vec::new()))],
         }
     }
@@ -245,8 +319,14 @@ impl Image {
             true => random.below(5) / 4,
             false => random.below(4),
         };
+        let at = CANDIDATES.iter().position(|candidate| *candidate == efs);
+        let at = at.unwrap_or_default();
+        let next = [CANDIDATES[at.saturating_sub(1)], CANDIDATES[(at + 1) % 6]];
         for _ in 0..others {
-            let other = random.one_of(&CANDIDATES);
+            let other = match random.once_in(2) {
+                true => random.one_of(&next),
+                false => random.one_of(&CANDIDATES),
+            };
             let (place, to) = (self.efs_place(random, other), random.below(self.length));
             let bytes = self.efs_bytes(random, to);
             self.parts.push(plain_part(place, bytes));
@@ -315,29 +395,48 @@ impl Image {
     }
 
     /// How many times calls are asked of the image, which is changed between. A large one takes long to make, and so is
-    /// used for longer, if its EFS is found.
+    /// used for longer, if its EFS is found; one with a fault gets another fault each time.
     pub fn rounds(&self, random: &mut Random) -> u64 {
         let found = self.efs.map_or(false, |efs| efs >= self.window());
         match self.length {
             0 => 1,
+            _ if self.one_fault => 6,
             length if length > LARGE && length <= MOST_BYTES && found => 6,
             _ => 1 + random.below(2),
+        }
+    }
+
+    /// How many calls are asked of it at a time.
+    pub fn calls(&self, random: &mut Random) -> u64 {
+        match self.one_fault {
+            true => 3 + random.below(5),
+            false => 8 + random.below(16),
         }
     }
 
     /// The lines that change an image which was written before: another takes its place, or some of its bytes break.
     pub fn change(&mut self, random: &mut Random, draft: &mut Draft, name: &str) {
         match self.efs {
+            Some(_) if self.one_fault => {
+                let next = Image::with_one_fault(random, self.length);
+                self.give_way(random, draft, name, next);
+            }
             Some(efs) if random.once_in(3) => {
-                for part in &mut self.parts {
-                    part.bytes.fill(0);
-                    part.write(random, draft, name, self.length);
-                }
-                *self = Image::with_efs(random, efs, self.length);
-                self.write_parts(random, draft, name);
+                let next = Image::with_efs(random, efs, self.length);
+                self.give_way(random, draft, name, next);
             }
             _ => self.break_anew(random, draft, name),
         }
+    }
+
+    /// The lines that put another image of the same length in the place of this one.
+    fn give_way(&mut self, random: &mut Random, draft: &mut Draft, name: &str, next: Image) {
+        for part in &mut self.parts {
+            part.bytes.fill(0);
+            part.write(random, draft, name, self.length);
+        }
+        *self = next;
+        self.write_parts(random, draft, name);
     }
 
     /// The lines that break bytes of a part; the part that was broken last is mended.
@@ -450,10 +549,11 @@ fn amount_of_entries(random: &mut Random) -> u64 {
 mod tests {
     use super::*;
 
-    /// So many images that each kind is among them.
+    /// So many images that each kind is among them. Those with one fault are all of one kind, and left out.
     fn many_images() -> Vec<Image> {
         let mut random = Random::from_seed(2);
-        (0..8000).map(|_| Image::random(&mut random)).collect()
+        let images = std::iter::repeat_with(|| Image::random(&mut random));
+        images.filter(|image| !image.one_fault).take(8000).collect()
     }
 
     /// The image's own EFS: of the parts that are no directories the last.
@@ -533,12 +633,37 @@ mod tests {
                 _ => astray += 1,
             }
         }
-        assert!(there > 6500, "{there} are in their place");
+        assert!(there > 6000, "{there} are in their place");
         assert!(astray >= 20, "{astray} are astray");
         assert!(
             below >= 100,
             "{below} have none, since their window begins above it"
         );
+    }
+
+    #[test]
+    fn an_image_with_one_fault_has_all_that_leads_to_it() {
+        let mut random = Random::from_seed(3);
+        let (mut cut, mut led) = (0, 0);
+        for _ in 0..1000 {
+            let length = least_length(CANDIDATES[0]) + random.below(0x4000);
+            let image = Image::with_one_fault(&mut random, length);
+            let efs = own_efs(&image);
+            assert_eq!(Some(efs.place), CANDIDATES[0].checked_sub(image.window()));
+            let (one, two) = (&image.directories[0], &image.directories[1]);
+            assert_eq!(efs.bytes[0x14..0x18], (one.0 as u32).to_le_bytes());
+            for (place, directory) in &image.directories {
+                let end = place + directory.bytes().len() as u64;
+                cut += u32::from(end > image.length);
+            }
+            let to = [image.window() + two.0, two.0 | 1 << 62];
+            let from_one = two.0.wrapping_sub(one.0) & ((1 << 62) - 1);
+            let leads = one.1.entries.iter().filter(|entry| entry.class == LEAD);
+            let mut words = leads.map(|entry| entry.word);
+            led += u32::from(words.any(|word| to.contains(&word) || word == from_one | 2 << 62));
+        }
+        assert!((50..300).contains(&cut), "{cut} are cut off");
+        assert!(led > 650, "{led} have an entry that leads to level two");
     }
 
     #[test]

@@ -21,7 +21,7 @@ fn script(random: &mut Random, calls: u64) -> Script {
             if round > 0 {
                 image.change(random, &mut draft, "a");
             }
-            for _ in 0..8 + random.below(16) {
+            for _ in 0..image.calls(random) {
                 let call = call(random, &image);
                 draft.ask(random, call);
             }

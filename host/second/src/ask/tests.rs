@@ -213,7 +213,7 @@ fn the_widest_numbers_are_calls() {
         ("start a 4294967295", "refused 9"),
         (
             "extend a 255 255 4294967295 0xffffffffffffffff 4294967295",
-            "refused 1",
+            "refused 1 level=0",
         ),
         ("find-image a 255 255", "refused 2"),
         (
@@ -478,7 +478,7 @@ fn flash_calls_answer_as_the_page_has_it() {
         ("entry a 2 2", "refused 8"),
         ("bytes a 1 0", "ok place=0x1000 length=256"),
         ("bytes a 1 1", "ok place=0x2000 length=0"),
-        ("bytes a 2 0", "refused 17"),
+        ("bytes a 2 0", "refused 17 level=2 index=0"),
         ("bytes a 2 1", "ok place=0x2000 length=36"),
         ("find a 1 0x40 0", "ok index=1 tested=2"),
         ("find a 2 0x55 1", "refused 8 tested=2"),
@@ -498,8 +498,9 @@ fn flash_calls_answer_as_the_page_has_it() {
             "ok type=0x55 sub=0x0 size=0x24 location=0x0 mode=2",
         ),
         ("view-bytes a 0x2000 1", "ok place=0x2000 length=36"),
-        ("view-entry a 0x2001 1", "refused 2"),
-        ("view-entry a 0x60000 1", "refused 1"),
+        ("view-bytes a 0x2000 0", "refused 17 level=2 index=0"),
+        ("view-entry a 0x2001 1", "refused 2 level=0"),
+        ("view-entry a 0x60000 1", "refused 1 level=0"),
         ("view-entry a 0x60001 1", "refused 7"),
         ("view-bytes a 0x2000 2", "refused 8"),
     ] {
@@ -553,9 +554,40 @@ fn start_and_extend_answer_as_the_page_has_it() {
         "refused 9",
         "ok length=15",
         "refused 12",
-        "refused 1",
+        "refused 1 level=0",
     ];
     assert_eq!(answers, expected);
+}
+
+#[test]
+fn a_refusal_is_told_with_the_level_and_the_index_where_it_was_met() {
+    // the checksums of two directories, whose reserved bits are set in the second entry and in the header
+    let lines = "
+        buffer a 48
+        start a 1
+        extend a 1 0 0 0 0
+        extend a 2 0 0 0 0
+        patch a 34 01
+        extend a 3 0 0 0 0
+        patch a 4 06004f00
+        extend a 3 0 0 0 0
+        patch a 34 00
+        patch a 12 01
+        extend a 3 0 0 0 0
+        patch a 4 06005a00
+        extend a 3 0 0 0 0
+        patch a 3 00
+        extend a 3 0 0 0 0";
+    let answers = talk(lines);
+    let refused: Vec<&String> = answers.iter().filter(|a| a.starts_with("ref")).collect();
+    let expected = [
+        "refused 4 level=1",
+        "refused 5 level=1 index=1",
+        "refused 4 level=1",
+        "refused 5 level=1",
+        "refused 2 level=0",
+    ];
+    assert_eq!(refused, expected);
 }
 
 // ASPT

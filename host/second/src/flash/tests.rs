@@ -1,5 +1,7 @@
 use super::*;
 
+mod places;
+
 /// Length of the short image of most tests: of the EFS candidates its window holds the first alone.
 const L: usize = 0x8_0000;
 /// Where that candidate and the two directories lie in it.
@@ -1319,9 +1321,9 @@ fn all_entries_are_each_as_it_is_told_alone() {
             place: TWO as u64 + 0x100,
             length: 0x10,
         }),
-        Err(Refusal::of(17)),
-        Err(Refusal::of(7)),
-        Err(Refusal::of(16)),
+        Err(Refusal::of(17).in_entry(2, 1, TWO as u64)),
+        Err(Refusal::of(7).in_entry(2, 2, TWO as u64)),
+        Err(Refusal::of(16).in_entry(2, 3, TWO as u64)),
     ];
     assert_eq!(all.iter().map(|one| one.bytes).collect::<Vec<_>>(), bytes);
     // No entries are no refusal, and a directory that is not good has none to tell.

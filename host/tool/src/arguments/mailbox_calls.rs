@@ -4,7 +4,7 @@ use crate::arguments::call::CallForm;
 use crate::arguments::lines::BadLine;
 use crate::arguments::numbers::{number, number16, number32};
 use crate::arguments::quoted::quoted;
-use bindings::{Mailbox, Place, Post, Register};
+use bindings::{CallerPlace, Mailbox, Post, Register};
 
 pub const FRESH: CallForm = CallForm::new("mailbox", "", "a fresh mailbox");
 pub const DESCRIBED: CallForm = CallForm::new(
@@ -48,7 +48,7 @@ pub fn asked_caller(words: &[&[u8]]) -> Result<u32, BadLine> {
 pub struct Description {
     pub line: Vec<Post>,
     pub register: Register,
-    pub places: [Place; 8],
+    pub places: [CallerPlace; 8],
 }
 
 impl Description {
@@ -152,7 +152,7 @@ fn ready(word: &[u8]) -> Result<[Option<u32>; 8], BadLine> {
 }
 
 /// Every caller's place: a delivered word; else waiting where the caller stands in line or register; else free.
-fn places(line: &[Post], register: Register, ready: &[Option<u32>; 8]) -> [Place; 8] {
+fn places(line: &[Post], register: Register, ready: &[Option<u32>; 8]) -> [CallerPlace; 8] {
     let waits = |of: u32| {
         let registered = match register {
             Register::Idle => false,
@@ -161,9 +161,9 @@ fn places(line: &[Post], register: Register, ready: &[Option<u32>; 8]) -> [Place
         registered || line.iter().any(|post| post.caller == of)
     };
     [0, 1, 2, 3, 4, 5, 6, 7].map(|caller: u32| match ready[caller as usize] {
-        Some(word) => Place::Ready(word),
-        None if waits(caller) => Place::Waiting,
-        None => Place::Free,
+        Some(word) => CallerPlace::Ready(word),
+        None if waits(caller) => CallerPlace::Waiting,
+        None => CallerPlace::Free,
     })
 }
 
@@ -176,10 +176,10 @@ mod tests {
         let line = line(b"1:0:0,9:0:0").unwrap();
         let ready = ready(b"0:5,1:6").unwrap();
         let found = places(&line, register(b"response:7:0").unwrap(), &ready);
-        let mut expected = [Place::Free; 8];
-        expected[0] = Place::Ready(5);
-        expected[1] = Place::Ready(6);
-        expected[7] = Place::Waiting;
+        let mut expected = [CallerPlace::Free; 8];
+        expected[0] = CallerPlace::Ready(5);
+        expected[1] = CallerPlace::Ready(6);
+        expected[7] = CallerPlace::Waiting;
         assert_eq!(found, expected);
     }
 }

@@ -7,8 +7,8 @@ use crate::shown::answer::{show, Asked};
 use crate::shown::entry::EntryShown;
 use crate::shown::forms;
 use crate::shown::json::{Fields, Json};
+use crate::shown::places::Refused;
 use crate::shown::refusals;
-use crate::shown::repeats;
 use bindings::{Answer, Directory};
 use clap::ArgMatches;
 
@@ -47,7 +47,9 @@ kpalumere entry [OPTIONS] <IMAGE> <LEVEL> <INDEX>
 const HELP: &str = "\
 Level 2 may have several directories. `kpalumere register IMAGE` lists them all
 with the places where they begin, and --at takes any of these. Numbers are
-decimal, or 0x and hexadecimal.
+decimal, or 0x and hexadecimal. What is refused in a directory is told with the
+header or the entry at fault, the field that is wrong, what stands in it and
+what should.
 
 Try it:
   kpalumere entry board.rom 1 0
@@ -62,7 +64,7 @@ fn read(matches: &ArgMatches) -> Result<Job, String> {
             &asked,
             |image| EntryShown::wanted(image, wanted),
             |image, answer| text(image, wanted, answer),
-            |answer| fields(wanted, answer),
+            |image, answer| fields(image, wanted, answer),
             |(_, shown)| shown.ending(),
         )
     }))
@@ -79,15 +81,14 @@ fn text(image: &[u8], wanted: WantedEntry, answer: &Answer<(Directory, EntryShow
             forms::entries(directory.total),
             shown.lines()
         ),
-        Err(refusal) => {
-            let told = repeats::told_of(image, wanted.directory, *refusal);
-            format!("{told}\n")
-        }
+        Err(refusal) => Refused::by(image, *refusal).text(""),
     }
 }
 
-fn fields(wanted: WantedEntry, answer: &Answer<(Directory, EntryShown)>) -> Fields {
+fn fields(image: &[u8], wanted: WantedEntry, answer: &Answer<(Directory, EntryShown)>) -> Fields {
     let given = answer.as_ref().ok();
+    let refused = answer.as_ref().err();
+    let refused = refused.map(|refusal| Refused::by(image, *refusal));
     let number = |of: fn(&Directory) -> u64| {
         Json::or_null(given, |(directory, _)| Json::Number(of(directory)))
     };
@@ -99,17 +100,19 @@ fn fields(wanted: WantedEntry, answer: &Answer<(Directory, EntryShown)>) -> Fiel
             Json::Number(place as u64),
         ),
     };
-    vec![
+    let mut fields = vec![
         ("level", level),
         ("at", at),
         ("directory", number(|directory| directory.place)),
         ("total", number(|directory| directory.total)),
         ("refused", refusals::json(answer)),
-        (
-            "entry",
-            Json::or_null(given, |(_, shown)| {
-                Json::Object(shown.fields(wanted.index as u64))
-            }),
-        ),
-    ]
+    ];
+    fields.extend(Refused::fields(refused.as_ref()));
+    fields.push((
+        "entry",
+        Json::or_null(given, |(_, shown)| {
+            Json::Object(shown.fields(wanted.index as u64))
+        }),
+    ));
+    fields
 }

@@ -32,7 +32,10 @@ fn help() -> String {
     format!(
         "\
 Where the library does not accept an image, a table or a call, it gives one of
-the {amount} numbers of document 01, and a command shows it as 'refused N'.
+the {amount} numbers of document 01, and a command shows it as 'refused N'. One that
+is met in a directory tells where: the level, the header or the entry's index,
+and where the directory begins; and the field that is wrong, what stands in it
+and what should. What these two are is told for each number.
 
 Try it:
   kpalumere explain
@@ -40,6 +43,9 @@ Try it:
 "
     )
 }
+
+/// What is said of a number that tells no place.
+const NO_PLACE: &str = "It is met in no header and no entry, and tells no place.";
 
 /// How wide the lines are where the output is no terminal.
 const USUAL_COLUMNS: usize = 100;
@@ -82,6 +88,7 @@ fn page(known: &Explained, columns: usize) -> String {
         ("It means", known.means),
         ("Usual causes", known.causes),
         ("Look at", known.look),
+        ("Where in a directory", known.place.unwrap_or(NO_PLACE)),
     ] {
         text.push_str(&format!("\n{label}:\n"));
         for line in folded(words, columns.saturating_sub(2)) {
@@ -121,7 +128,8 @@ mod tests {
             for columns in [40, 80, 132] {
                 let page = page(known, columns);
                 let together = page.split_whitespace().collect::<Vec<_>>().join(" ");
-                for text in [known.title, known.means, known.causes, known.look] {
+                let place = known.place.unwrap_or(NO_PLACE);
+                for text in [known.title, known.means, known.causes, known.look, place] {
                     assert!(together.contains(text), "{}: {text}", known.number);
                 }
                 for text in boards::told(known.number) {

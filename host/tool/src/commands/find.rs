@@ -8,8 +8,8 @@ use crate::shown::entry::EntryShown;
 use crate::shown::forms;
 use crate::shown::json::{Fields, Json};
 use crate::shown::names;
+use crate::shown::places::Refused;
 use crate::shown::refusals;
-use crate::shown::repeats;
 use crate::shown::shell;
 use bindings::{directory, find_image, Answer, ImageMatch, Part, Refusal};
 use clap::ArgMatches;
@@ -65,7 +65,8 @@ The whole image is searched: level 1 in order, and level 2 where an entry leads
 to it, before the entry after that one. With --level L the directory of that
 level is searched alone. Numbers are decimal, or 0x and hexadecimal. How many
 entries were tested is told, found or not; and of what is found, the words that
-extract its bytes.
+extract its bytes. A directory that is refused is told with its header or the
+entry at fault, the field that is wrong, what stands in it and what should.
 
 Try it:
   kpalumere find board.rom boot-loader 0
@@ -102,7 +103,7 @@ fn read(matches: &ArgMatches) -> Result<Job, String> {
             &asked,
             |image| wanted.find(image),
             |image, answer| text(&asked.file, image, wanted, answer),
-            |answer| fields(wanted, answer),
+            |image, answer| fields(image, wanted, answer),
             |found| found.shown.ending(),
         )
     }))
@@ -158,7 +159,7 @@ fn text(name: &OsStr, image: &[u8], wanted: Wanted, answer: &Answer<Found>) -> S
             tested: Some(tested),
             ..
         }) => wanted.none(image, *tested),
-        Err(refusal) => format!("{}\n", repeats::told(image, *refusal)),
+        Err(refusal) => Refused::by(image, *refusal).text(""),
     }
 }
 
@@ -175,15 +176,17 @@ fn extract_line(name: &OsStr, at: ImageMatch, part: Answer<Part>) -> String {
     }
 }
 
-fn fields(wanted: Wanted, answer: &Answer<Found>) -> Fields {
+fn fields(image: &[u8], wanted: Wanted, answer: &Answer<Found>) -> Fields {
     let found = answer.as_ref().ok();
+    let refused = answer.as_ref().err();
+    let refused = refused.map(|refusal| Refused::by(image, *refusal));
     let number =
         |of: fn(&ImageMatch) -> u64| Json::or_null(found, |found| Json::Number(of(&found.at)));
     let tested = match answer {
         Ok(found) => Some(found.at.tested),
         Err(refusal) => refusal.tested,
     };
-    vec![
+    let mut fields = vec![
         ("type", Json::Number(u64::from(wanted.class))),
         ("subprogram", Json::Number(u64::from(wanted.subprogram))),
         (
@@ -192,6 +195,9 @@ fn fields(wanted: Wanted, answer: &Answer<Found>) -> Fields {
         ),
         ("tested", Json::or_null(tested, Json::Number)),
         ("refused", refusals::json(answer)),
+    ];
+    fields.extend(Refused::fields(refused.as_ref()));
+    fields.extend([
         ("level", number(|at| at.level)),
         ("directory", number(|at| at.place)),
         (
@@ -200,5 +206,6 @@ fn fields(wanted: Wanted, answer: &Answer<Found>) -> Fields {
                 Json::Object(found.shown.fields(found.at.index))
             }),
         ),
-    ]
+    ]);
+    fields
 }

@@ -84,6 +84,24 @@ mod tests {
     }
 
     #[test]
+    fn what_is_met_in_the_directory_there_is_told_with_its_place() {
+        let calls = "extend a 2 0 0 0 0\npatch a 4 03001b00\npatch a 0x12 01\nextend a 2 0 0 0 0\n\
+                     patch a 4 00\nextend a 2 0 0 0 0\npatch a 0 00\nextend a 2 0 0 0 0\n\
+                     buffer a 15\nextend a 2 0 0 0 0\n";
+        let others = "buffer a 32\nstart a 2\nextend a 1 0 0 0 0\n";
+        let mut answers = answers_after(others, calls);
+        answers.retain(|answer| answer.starts_with("refused"));
+        let expected = [
+            "refused 12",
+            "refused 5 level=2 index=0",
+            "refused 4 level=2",
+            "refused 2 level=0",
+            "refused 1 level=0",
+        ];
+        assert_eq!(answers, expected);
+    }
+
+    #[test]
     fn numbers_must_fit_their_widths() {
         let lines = [
             "start a 0x100000000",

@@ -149,13 +149,47 @@ patch a 0x200 24504c32ffffffff0000000000000000
             "refused 9",
             "refused 8",
             "refused 8",
-            "refused 17",
+            "refused 17 level=1 index=2",
             "refused 8 tested=3",
             "refused 8 tested=0",
             "refused 9",
             "refused 8 tested=3",
         ];
         assert_eq!(answers_after(IMAGE, calls), expected);
+    }
+
+    #[test]
+    fn what_is_met_in_a_directory_is_told_with_its_level_and_index() {
+        // Calls after others that change the image, each accepted.
+        let refused = |patches: &str, calls: &str, answer: &str| {
+            let answers = answers_after(&(IMAGE.to_string() + patches), calls);
+            assert_eq!(answers.len(), calls.lines().count());
+            for told in answers {
+                assert_eq!(told, answer, "{calls}");
+            }
+        };
+        let of_one = "directory a 1\nentry a 1 0\nbytes a 1 0\nfind a 1 1 2\nfind-image a 1 2\n";
+        let of_two = "directory a 2\nentry a 2 0\nbytes a 2 0\nfind a 2 1 2\nfind-image a 9 9\n";
+        // A checksum of each level, and a total of level two.
+        refused("patch a 0x104 00\n", of_one, "refused 4 level=1");
+        refused("patch a 0x104 00\n", of_two, "refused 4 level=1");
+        refused("patch a 0x204 00\n", of_two, "refused 4 level=2");
+        refused("patch a 0x208 0102\n", of_two, "refused 3 level=2");
+        // Flags of the last entry of level one.
+        let flags = "patch a 0x104 91558cd8\npatch a 0x132 01\n";
+        refused(flags, of_one, "refused 5 level=1 index=2");
+        refused(flags, of_two, "refused 5 level=1 index=2");
+        // An entry of level two that leads, and one that repeats in level one.
+        let lead = "patch a 0x204 41000c0201\npatch a 0x210 40\n";
+        refused(lead, of_two, "refused 14 level=2 index=0");
+        let repeat = "patch a 0x104 3e972d32\npatch a 0x130 01020000000000000000000000000040\n";
+        refused(repeat, of_one, "refused 18 level=1 index=2");
+        // The location of the entry that leads to level two: mode 3, and a place beyond the image.
+        let calls = of_two.to_string() + "bytes a 1 1\n";
+        let mode = "patch a 0x104 91158c98\npatch a 0x12f c0\n";
+        refused(mode, &calls, "refused 16 level=1 index=1");
+        let outside = "patch a 0x104 a0933901\npatch a 0x128 0100080000000040\n";
+        refused(outside, &calls, "refused 7 level=1 index=1");
     }
 
     #[test]

@@ -4,7 +4,7 @@ use super::recorded;
 use crate::arguments::lines::{words_of, BadLine};
 use crate::arguments::mailbox_calls::{asked_caller, asked_post, description, Description, FORMS};
 use crate::arguments::quoted::quoted;
-use bindings::{Answer, Firmware, Mailbox, Place, Refusal, Register};
+use bindings::{Answer, CallerPlace, Firmware, Mailbox, Refusal, Register};
 use std::collections::BTreeMap;
 
 /// A recording, as far as it has been played.
@@ -192,7 +192,7 @@ impl Part {
             );
         };
         for (caller, place) in (0..).zip(description.places) {
-            if let Place::Ready(_) = place {
+            if let CallerPlace::Ready(_) = place {
                 found(caller, Asked::Response);
             }
         }

@@ -91,11 +91,29 @@ patch a 0x210 03000000000000000000000000000080
             "refused 9",
             "refused 8",
             "refused 8",
-            "refused 2",
-            "refused 1",
+            "refused 2 level=0",
+            "refused 1 level=0",
             "refused 7",
         ];
         assert_eq!(answers_after(IMAGE, calls), expected);
+    }
+
+    #[test]
+    fn what_is_met_in_a_directory_is_told_with_the_level_of_its_cookie() {
+        let calls = "patch a 0x104 00\nview a 1\nview-entry a 0x100 0\n\
+                     patch a 0x204 05002800\npatch a 0x213 80\nview-entry a 0x200 0\nview-bytes a 0x200 9\n\
+                     patch a 0x204 04c024c0\npatch a 0x213 00\npatch a 0x21f c0\nview-entry a 0x200 0\nview-bytes a 0x200 0\n";
+        let mut answers = answers_after(IMAGE, calls);
+        answers.retain(|answer| answer != "ok");
+        let expected = [
+            "refused 4 level=1",
+            "refused 4 level=1",
+            "refused 5 level=2 index=0",
+            "refused 5 level=2 index=0",
+            "ok type=0x3 sub=0x0 size=0x0 location=0x0 mode=3",
+            "refused 16 level=2 index=0",
+        ];
+        assert_eq!(answers, expected);
     }
 
     #[test]

@@ -1,7 +1,9 @@
 //! The five machines without a boot loader: on each the lookup of type 1 and subprogram 0 truly finds none, for another reason that
 //! would tempt a careless reader. docs/DECISIONS.md, F21, says what they are made from.
 
-use super::image::{entry, put_directory, put_efs, put_uncounted, FROM_IMAGE, PHYSICAL};
+use super::image::{
+    at, entry, put_directory, put_efs, put_uncounted, small_image, BOOT_LOADER, LEVEL_ONE, PHYSICAL,
+};
 use bindings::{Answer, NewEntry};
 
 /// A machine: the name of its image, and how it is made.
@@ -33,25 +35,11 @@ pub static MACHINES: [Machine; 5] = [
     },
 ];
 
-/// Where level 1 begins on all of them, and level 2 on most.
-const LEVEL_ONE: usize = 0x1000;
+/// Where level 2 begins on most of them.
 const LEVEL_TWO: usize = 0x4000;
 
-/// The types that the story is about: a boot loader, and an entry that leads to level 2.
-const BOOT_LOADER: u8 = 0x01;
+/// The type of an entry that leads to level 2.
 const LEAD: u8 = 0x40;
-
-/// An image of 512 KiB whose EFS leads to level 1.
-fn small_image() -> Vec<u8> {
-    let mut image = vec![0; 0x8_0000];
-    put_efs(&mut image, 0x2_0000, LEVEL_ONE as u32);
-    image
-}
-
-/// An entry whose bytes lie at a place of the image.
-fn at(class: u8, subprogram: u8, size: u32, place: u64) -> NewEntry {
-    entry(class, subprogram, size, place, FROM_IMAGE)
-}
 
 /// Behind the last entry of level 2 stand sixteen bytes that look like the entry of a boot loader, which no total counts.
 fn behind_the_last_entry() -> Answer<Vec<u8>> {

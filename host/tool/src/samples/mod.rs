@@ -4,3 +4,4 @@ pub mod board;
 mod image;
 pub mod machines;
 pub mod recordings;
+pub mod refused;

@@ -42,6 +42,7 @@ pub fn table_shown<T: 'static>(
     let asked = Asked::read(matches, "FILE");
     Ok(Box::new(move || {
         let for_people = |_: &[u8], answer: &_| for_people(answer);
+        let for_programs = |_: &[u8], answer: &_| for_programs(answer);
         show(&asked, ask, for_people, for_programs, |_| Ending::Done)
     }))
 }
@@ -52,7 +53,7 @@ pub fn show<T>(
     asked: &Asked,
     ask: impl FnOnce(&[u8]) -> Answer<T>,
     for_people: impl FnOnce(&[u8], &Answer<T>) -> String,
-    for_programs: impl FnOnce(&Answer<T>) -> Fields,
+    for_programs: impl FnOnce(&[u8], &Answer<T>) -> Fields,
     ending: impl FnOnce(&T) -> Ending,
 ) -> Ending {
     let Asked { file, .. } = asked;
@@ -61,7 +62,7 @@ pub fn show<T>(
         let text = match asked.for_programs {
             true => {
                 let mut fields = first_fields(file);
-                fields.extend(for_programs(&answer));
+                fields.extend(for_programs(bytes, &answer));
                 format!("{}\n", Json::Object(fields))
             }
             false => for_people(bytes, &answer),

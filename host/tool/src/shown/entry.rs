@@ -5,12 +5,14 @@ use crate::arguments::wanted_entry::{WantedDirectory, WantedEntry};
 use crate::shown::forms;
 use crate::shown::json::{Fields, Json};
 use crate::shown::names;
+use crate::shown::places::Refused;
 use crate::shown::refusals;
 use crate::shown::versions;
 use crate::system::ending::Ending;
+use crate::system::folding::on_one_line;
 use bindings::{
-    directory, view_entries, view_entry, view_part, view_version, Answer, Directory, Entry, Part,
-    Refusal, Words,
+    directory, version, view_entries, view_entry, view_part, view_version, Answer, Directory,
+    Entry, EntryRow, Part, Place, Refusal, Words,
 };
 
 /// What the library answers about one entry.
@@ -19,6 +21,8 @@ pub struct EntryShown {
     pub entry: Entry,
     /// Where its bytes lie.
     pub part: Answer<Part>,
+    /// Why they do not lie in the image, where they do not: a value has none to refuse.
+    pub refused: Option<Refused>,
     /// The version that its bytes carry, where it has bytes.
     pub version: Option<Answer<u64>>,
 }
@@ -31,8 +35,28 @@ impl EntryShown {
         Ok(EntryShown {
             entry,
             part,
+            refused: refused(image, part),
             version: part.ok().map(|_| view_version(image, place, index)),
         })
+    }
+
+    /// The same by a row of its directory. There the library tells of bytes that are refused the number alone, for the row tells the entry.
+    pub fn of_row(image: &[u8], directory: Directory, index: u64, row: EntryRow) -> EntryShown {
+        let place = Place {
+            level: directory.level,
+            index: Some(index),
+            directory: directory.place,
+        };
+        let part = row.part.map_err(|refusal| Refusal {
+            place: Some(place),
+            ..refusal
+        });
+        EntryShown {
+            entry: row.entry,
+            part,
+            refused: refused(image, part),
+            version: part.ok().map(|part| version(bytes_of(image, part))),
+        }
     }
 
     /// What the library answers about the entry that is wanted, and about its directory.
@@ -51,11 +75,11 @@ impl EntryShown {
         refusal.is(Refusal::VALUE).then_some(self.entry.location)
     }
 
-    /// How a run ends that was asked for this entry: bytes that are refused count, but a value has none to refuse.
+    /// How a run ends that was asked for this entry.
     pub fn ending(&self) -> Ending {
-        match self.part.is_ok() || self.value().is_some() {
-            true => Ending::Done,
-            false => Ending::Refused,
+        match self.refused {
+            None => Ending::Done,
+            Some(_) => Ending::Refused,
         }
     }
 
@@ -96,10 +120,10 @@ impl EntryShown {
              {version}",
             names::numbered_type(class),
             forms::size(size),
-            match (self.part, self.value()) {
+            match (self.part, self.refused) {
                 (Ok(part), _) => forms::range_of_image(part),
-                (Err(_), Some(_)) => String::from("none: the entry holds the value"),
-                (Err(refusal), None) => refusals::told(refusal),
+                (Err(_), None) => String::from("none: the entry holds the value"),
+                (Err(_), Some(refused)) => refused_lines(&refused),
             }
         )
     }
@@ -129,12 +153,33 @@ impl EntryShown {
             // A value is in order: what says that there are no bytes is the value itself.
             (
                 "refused",
-                self.value()
-                    .map_or_else(|| refusals::json(part), |_| Json::Null),
+                Json::or_null(self.refused, |refused| Json::Number(refused.refusal.number)),
             ),
+            Refused::wrong_field(self.refused.as_ref()),
             ("version", Json::or_null(self.version_words(), Json::Text)),
         ]
     }
+}
+
+/// The bytes that the library pointed out.
+pub fn bytes_of(image: &[u8], part: Part) -> &[u8] {
+    &image[part.place as usize..][..part.length as usize]
+}
+
+/// Why the bytes of an entry do not lie in the image.
+fn refused(image: &[u8], part: Answer<Part>) -> Option<Refused> {
+    let refusal = part.err().filter(|refusal| !refusal.is(Refusal::VALUE));
+    refusal.map(|refusal| Refused::by(image, refusal))
+}
+
+/// The same for people: what is wrong, and what to do, on lines of their own behind the number.
+fn refused_lines(refused: &Refused) -> String {
+    let why = refused.sentence().map_or(String::new(), |sentence| {
+        format!("\n  why         {}", on_one_line(&sentence))
+    });
+    let Refused { refusal, .. } = refused;
+    let explain = refusals::explain(*refusal);
+    format!("{}{why}\n  explain     {explain}", refusals::told(*refusal))
 }
 
 #[cfg(test)]
@@ -154,6 +199,7 @@ mod tests {
         EntryShown {
             entry: ENTRY,
             part,
+            refused: refused(&[], part),
             version: part.ok().map(|_| Err(no_header)),
         }
     }

@@ -46,6 +46,11 @@ pub fn entry(index: impl Display, directory: &str) -> String {
     format!("entry {index} of {directory}")
 }
 
+/// What stands before the entries of a directory: `header of level 2 at 0x28000`.
+pub fn header(directory: &str) -> String {
+    format!("header of {directory}")
+}
+
 /// Where a part of the image lies: its first and its last byte.
 pub fn range(part: Part) -> String {
     let Part { place, length } = part;

@@ -11,6 +11,7 @@ pub mod forms;
 pub mod json;
 pub mod names;
 pub mod page;
+pub mod places;
 pub mod refusals;
 pub mod repeats;
 pub mod shell;

@@ -1,6 +1,7 @@
 //! The refusal numbers of document 01 in words: what each means, what usually causes it, and what to look at.
 
 use crate::shown::json::Json;
+use crate::system::folding::kept;
 use bindings::{Answer, Refusal};
 
 /// A refusal number in words.
@@ -11,6 +12,8 @@ pub struct Explained {
     pub means: &'static str,
     pub causes: &'static str,
     pub look: &'static str,
+    /// Where in a directory it may be met, and what `stands` and `should` are there; none where it tells no place.
+    pub place: Option<&'static str>,
 }
 
 /// The refusals of document 01; number N stands at N - 1.
@@ -25,6 +28,12 @@ pub static REFUSALS: [Explained; 18] = [
              run out of it, or the wrong file.",
         look: "The file's length; where the directory begins, and 16 bytes for each of its \
              entries behind the first 16.",
+        place: Some(
+            "In the header. What stands is how many bytes the image has from the \
+             field on; what should is how many the header takes, or the entries behind it. The \
+             level is 0 where the directory was named by its place and its header is cut off. Of \
+             any other table no place is told.",
+        ),
     },
     Explained {
         number: Refusal::SIGNATURE,
@@ -43,6 +52,12 @@ pub static REFUSALS: [Explained; 18] = [
         look: "First the file's length. Where it is not that of the flash part, read the part \
              again, or take off what was added. Then bytes aa 55 aa 55 at the places below; and \
              where the pointer leads, the four letters there: $PSP for level 1, $PL2 for level 2.",
+        place: Some(
+            "In the header. What stands and what should are the four bytes of the \
+             cookie, the lowest first. The level is 0 where the directory was named by its place \
+             and has neither cookie; then that of level 1 is told as what should stand there. Of \
+             the EFS and of any other table no place is told.",
+        ),
     },
     Explained {
         number: Refusal::LIMITS,
@@ -55,6 +70,11 @@ pub static REFUSALS: [Explained; 18] = [
              damaged or is full.",
         look: "The total at offset 8 of the directory; length and count of the ASPT; the two \
              bytes 50 before the end of an image with a GUID table.",
+        place: Some(
+            "In the header. What stands is its total; what should is the largest \
+             that it may be. Of any other table, and of an entry that is to be added, no place is \
+             told.",
+        ),
     },
     Explained {
         number: Refusal::CHECKSUM,
@@ -63,8 +83,13 @@ pub static REFUSALS: [Explained; 18] = [
         causes: "A table that was changed without a new checksum, damage, or a maker that sums \
              in another way: a directory here carries Fletcher's 32-bit sum, and the 112 bytes \
              of an ASPT sum to 0 modulo 256.",
-        look: "The four bytes at offset 4 of the directory; whether the image was patched by \
-             hand after it was made.",
+        look: "The four bytes at offset 4 of the directory, the lowest first; whether the image \
+             was patched by hand after it was made.",
+        place: Some(
+            "In the header. What stands is the checksum there; what should is the \
+             sum of the bytes behind it, to the end of the last entry. Of an ASPT no place is \
+             told.",
+        ),
     },
     Explained {
         number: Refusal::FIELD,
@@ -73,8 +98,18 @@ pub static REFUSALS: [Explained; 18] = [
              revision, base address or ID byte, a location of 2^62 or more, an address mode \
              above 3, or a mailbox that breaks its own rules.",
         causes: "A newer form of the table, which gives these bits a meaning, or damage that the \
-             checksum does not show.",
-        look: "Bytes 2 and 3 of each entry, and bytes 12 to 15 of the directory's header.",
+             checksum does not show. Directories that amdfwtool, coreboot's tool, wrote have their \
+             size and more in the last word of the header, where document 01 asks for zero: such \
+             an image need not be damaged, and may be good for its board.",
+        look:
+            "The field that `kpalumere register IMAGE` names: bytes 2 and 3 of an entry, or bytes \
+             12 to 15 of a directory's header. To see what an image of amdfwtool holds, put zero \
+             there in a copy of it, and then the checksum that the register tells.",
+        place: Some(
+            "In the header, or in an entry. What stands is the header's last word, \
+             or bytes 2 and 3 of the entry; what should is 0. Of any other table, of a mailbox, \
+             and of an entry that is to be added, no place is told.",
+        ),
     },
     Explained {
         number: Refusal::STRUCTURE,
@@ -86,6 +121,7 @@ pub static REFUSALS: [Explained; 18] = [
              structure of a newer kind.",
         look: "The lengths of the entries, counted backwards from the footer; the types and \
              lengths of the three structures.",
+        place: None,
     },
     Explained {
         number: Refusal::OUTSIDE,
@@ -103,6 +139,11 @@ pub static REFUSALS: [Explained; 18] = [
         look: "First the file's length. Where it is not that of the flash part, read the part \
              again, or take off what was added. Then the pointers at 0x10 and 0x14 of the EFS, \
              and location, size and address mode of the entry, beside what is taken, below.",
+        place: Some(
+            "In an entry. What stands is its location; what should is the image's length, by \
+             which its bytes must end. Of a pointer of the EFS, of a place that was given, and of \
+             a register no place is told.",
+        ),
     },
     Explained {
         number: Refusal::ABSENT,
@@ -113,6 +154,7 @@ pub static REFUSALS: [Explained; 18] = [
         causes: "A question for firmware that this image does not carry, or an image without \
              level 2.",
         look: "The entries of both directories, as `kpalumere register IMAGE` shows them.",
+        place: None,
     },
     Explained {
         number: Refusal::RANGE,
@@ -121,6 +163,7 @@ pub static REFUSALS: [Explained; 18] = [
              caller above 7, a command above 0x3ff.",
         causes: "A slip in the question. The bytes were not looked at.",
         look: "The numbers that were given.",
+        place: None,
     },
     Explained {
         number: Refusal::OUTSTANDING,
@@ -128,6 +171,7 @@ pub static REFUSALS: [Explained; 18] = [
         means: "A caller of the mailbox posted again before it took the answer to its last post.",
         causes: "A program that does not wait, or two programs that use the same caller number.",
         look: "Which callers have posted and not taken, as `kpalumere mailbox` shows them.",
+        place: None,
     },
     Explained {
         number: Refusal::EARLY,
@@ -136,6 +180,7 @@ pub static REFUSALS: [Explained; 18] = [
         causes: "Asking too soon: the post still waits in line, or its answer still stands in \
              the register.",
         look: "The loads, turns and unloads that came after the post.",
+        place: None,
     },
     Explained {
         number: Refusal::ROOM,
@@ -145,6 +190,7 @@ pub static REFUSALS: [Explained; 18] = [
         causes: "A buffer without 16 more bytes for an entry, or, for a GUID table, without free \
              bytes before it.",
         look: "The length of the buffer or the file.",
+        place: None,
     },
     Explained {
         number: Refusal::WRITTEN,
@@ -153,6 +199,7 @@ pub static REFUSALS: [Explained; 18] = [
              Nothing was written.",
         causes: "An image with code or data right before its GUID table.",
         look: "The bytes before the table: as many as the entry's data and 18 more must be zero.",
+        place: None,
     },
     Explained {
         number: Refusal::MISPLACED,
@@ -162,6 +209,10 @@ pub static REFUSALS: [Explained; 18] = [
         causes: "Entries of level 1 copied into level 2, or a directory with the cookie of the \
              wrong level.",
         look: "The types of the entries of level 2.",
+        place: Some(
+            "In an entry. What stands is its type; what should is the level in which that may \
+             stand. Of an entry that is to be added no place is told.",
+        ),
     },
     Explained {
         number: Refusal::IMAGE,
@@ -171,6 +222,7 @@ pub static REFUSALS: [Explained; 18] = [
         causes: "An empty file, or the image of a flash of 32 MiB or more.",
         look: "The file's length. Of a larger flash, give the part of 16 MiB that holds the \
              firmware.",
+        place: None,
     },
     Explained {
         number: Refusal::MODE,
@@ -179,6 +231,10 @@ pub static REFUSALS: [Explained; 18] = [
              image says where that is.",
         causes: "An image for a newer family, whose entries are placed so.",
         look: "The entry's address mode; the location is shown and is not followed.",
+        place: Some(
+            "In an entry. What stands is its address mode; what should is the highest that is \
+             followed.",
+        ),
     },
     Explained {
         number: Refusal::VALUE,
@@ -187,6 +243,10 @@ pub static REFUSALS: [Explained; 18] = [
              the value.",
         causes: "Asking for the bytes of the soft fuse chain.",
         look: "The location that is shown for the entry: it is the value.",
+        place: Some(
+            "In an entry. What stands is its type; what should is the type that holds a value, \
+             which is the same.",
+        ),
     },
     Explained {
         number: Refusal::REPEATED,
@@ -201,6 +261,10 @@ pub static REFUSALS: [Explained; 18] = [
              offset 16 of the directory, each has 16 bytes, and the first two of these are its \
              type and its subprogram. Leave one of the two entries out, or give it another \
              subprogram, and build the directory again.",
+        place: Some(
+            "In the later one of the two entries. What stands is its type; what should is the \
+             index of the earlier entry. Of an entry that is to be added no place is told.",
+        ),
     },
 ];
 
@@ -214,9 +278,30 @@ pub fn told(refusal: Refusal) -> String {
     numbered(refusal.number, title(refusal.number))
 }
 
+/// The same, with the number on the line of the word before it.
+pub fn told_kept(refusal: Refusal) -> String {
+    told(refusal).replacen("refused ", &kept("refused "), 1)
+}
+
 /// A refusal number with the words for it: where a command knows the rule that was broken, these say it.
 pub fn numbered(number: u64, words: &str) -> String {
     format!("refused {number}: {words}")
+}
+
+/// The number alone, for a cell of a table.
+pub fn number(refusal: Refusal) -> String {
+    format!("refused {}", refusal.number)
+}
+
+/// The words that explain a number.
+pub fn explain(refusal: Refusal) -> String {
+    format!("kpalumere explain {}", refusal.number)
+}
+
+/// What to do next.
+pub fn hint(refusal: Refusal) -> String {
+    let command = kept(&format!("`{}`", explain(refusal)));
+    format!("{command} says what usually causes this, and what to look at.")
 }
 
 /// The few words for a number.
@@ -241,11 +326,15 @@ mod tests {
         assert_eq!(numbers, (1..=18).collect::<Vec<u64>>());
         for known in &REFUSALS {
             assert!(known.title.len() <= 50, "{}", known.number);
-            for text in [known.means, known.causes, known.look] {
+            let texts = [known.means, known.causes, known.look];
+            for text in texts.into_iter().chain(known.place) {
                 assert!(text.ends_with('.'), "{}: {text}", known.number);
             }
         }
         assert!(explained(0).is_none() && explained(19).is_none());
+        let met = REFUSALS.iter().filter(|known| known.place.is_some());
+        let met: Vec<u64> = met.map(|known| known.number).collect();
+        assert_eq!(met, [1, 2, 3, 4, 5, 7, 14, 16, 17, 18]);
     }
 
     #[test]

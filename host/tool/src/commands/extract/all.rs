@@ -1,37 +1,34 @@
 //! Every entry that has bytes, of all directories of an image, each into a file of its own in one folder.
 
-use super::{bytes_of, told};
+use super::told;
+use crate::shown::entry::{bytes_of, EntryShown};
 use crate::shown::forms;
 use crate::shown::names;
-use crate::shown::refusals;
-use crate::shown::repeats;
+use crate::shown::places::Refused;
 use crate::system::ending::Ending;
 use crate::system::files::{self, quoted_name};
+use crate::system::folding::on_one_line;
 use crate::system::messages::say;
 use crate::system::new_file;
 use crate::system::new_folder;
 use crate::system::output::print;
-use bindings::{
-    directories, view_entries, Answer, Directory, Entry, EntryRow, Part, Refusal, Words,
-};
+use bindings::{directories, view_entries, Answer, Directory, Entry, Part, Words};
 use std::ffi::OsStr;
 use std::path::{Path, PathBuf};
 
 /// An entry of an image, and where it stands.
 struct Listed {
     directory: Directory,
-    index: usize,
-    entry: Entry,
-    /// Where its bytes lie.
-    part: Answer<Part>,
+    index: u64,
+    row: EntryShown,
 }
 
 /// Writes every entry that has bytes of the image that a file holds into a folder.
 pub fn run(name: &OsStr, folder: &OsStr, force: bool) -> Ending {
     files::asked(name, |image| match all_of(image) {
         Err(refusal) => {
-            let told = repeats::told(image, refusal);
-            print(&format!("{told}; nothing is written\n")).and(Ending::Refused)
+            let text = Refused::by(image, refusal).text("; nothing is written");
+            print(&text).and(Ending::Refused)
         }
         Ok(all) => match write_all(image, &all, name, Path::new(folder), force) {
             Ok(ending) => ending,
@@ -57,12 +54,11 @@ fn all_of(image: &[u8]) -> Answer<Vec<Listed>> {
             continue;
         }
         let entries = view_entries(image, directory.place as usize, &mut words)?;
-        let rows = entries.rows().enumerate();
-        all.extend(rows.map(|(index, EntryRow { entry, part })| Listed {
+        let rows = (0..).zip(entries.rows());
+        all.extend(rows.map(|(index, row)| Listed {
             directory,
             index,
-            entry,
-            part,
+            row: EntryShown::of_row(image, directory, index, row),
         }));
     }
     Ok(all)
@@ -85,7 +81,7 @@ fn write_all(
     new_folder::made_ready(&[folder], &files, force)?;
     let (mut written, mut ending) = (0, Ending::Done);
     for listed in all {
-        ending = ending.and(listed.ending());
+        ending = ending.and(listed.row.ending());
         let line = match listed.bytes() {
             Err(reason) => format!("{} is left out: {reason}", listed.words()),
             Ok(part) => {
@@ -96,7 +92,7 @@ fn write_all(
                 told(
                     &quoted_name(file.as_os_str()),
                     &listed.entry_words(),
-                    listed.entry,
+                    listed.row.entry,
                     part,
                 )
             }
@@ -115,21 +111,19 @@ fn write_all(
 impl Listed {
     /// Where its bytes lie, or why it has none to write.
     fn bytes(&self) -> Result<Part, String> {
-        match self.part {
-            Ok(part) if part.length > 0 => Ok(part),
-            Ok(_) => Err(String::from("it has no bytes")),
-            Err(refusal) if refusal.is(Refusal::VALUE) => {
-                Err(format!("it holds the value {:#x}", self.entry.location))
+        match (self.row.part, self.row.refused) {
+            (Ok(part), _) if part.length > 0 => Ok(part),
+            (Ok(_), _) => Err(String::from("it has no bytes")),
+            (Err(_), Some(refused)) => {
+                let why = refused
+                    .sentence()
+                    .map_or(String::new(), |why| format!("; {why}"));
+                Err(on_one_line(&format!("{}{why}", refused.told())))
             }
-            Err(refusal) => Err(refusals::told(refusal)),
-        }
-    }
-
-    /// How a run ends that has to do with this entry alone: a value has no bytes to refuse.
-    fn ending(&self) -> Ending {
-        match self.part {
-            Err(refusal) if !refusal.is(Refusal::VALUE) => Ending::Refused,
-            _ => Ending::Done,
+            (Err(_), None) => {
+                let value = self.row.entry.location;
+                Err(format!("it holds the value {value:#x}"))
+            }
         }
     }
 
@@ -138,7 +132,7 @@ impl Listed {
         let Directory { level, place, .. } = self.directory;
         let Entry {
             class, subprogram, ..
-        } = self.entry;
+        } = self.row.entry;
         let name =
             names::entry_type(class).map_or(String::new(), |known| format!("-{}", known.name));
         let index = self.index;
@@ -153,7 +147,7 @@ impl Listed {
 
     /// The same with its type.
     fn words(&self) -> String {
-        let class = names::numbered_type(self.entry.class);
+        let class = names::numbered_type(self.row.entry.class);
         format!("{}, {class},", self.entry_words())
     }
 }
@@ -161,9 +155,11 @@ impl Listed {
 #[cfg(test)]
 mod tests {
     use super::*;
+    use bindings::Refusal;
 
     fn listed(entry: (u64, u64), part: Answer<Part>) -> Listed {
         let (class, subprogram) = entry;
+        let refusal = part.err().filter(|refusal| !refusal.is(Refusal::VALUE));
         Listed {
             directory: Directory {
                 place: 0x2_8000,
@@ -171,14 +167,18 @@ mod tests {
                 total: 4,
             },
             index: 3,
-            entry: Entry {
-                class,
-                subprogram,
-                size: 0,
-                location: 0x1234,
-                mode: 0,
+            row: EntryShown {
+                entry: Entry {
+                    class,
+                    subprogram,
+                    size: 0,
+                    location: 0x1234,
+                    mode: 0,
+                },
+                part,
+                refused: refusal.map(|refusal| Refused::by(&[], refusal)),
+                version: None,
             },
-            part,
         }
     }
 
@@ -210,7 +210,7 @@ mod tests {
         ] {
             let listed = listed((0x0B, 0), part);
             assert_eq!(listed.bytes(), Err(String::from(reason)));
-            assert_eq!(listed.ending(), ending);
+            assert_eq!(listed.row.ending(), ending);
         }
     }
 }

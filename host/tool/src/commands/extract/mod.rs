@@ -67,7 +67,8 @@ made where it is not there, and nothing is written outside it. A file's name has
 the directory's level and place, and the entry's index, type and subprogram:
   level2-0x28000-000-0x01-0x00-boot-loader.bin
 An entry without bytes is left out, and it is told why; that it holds a value is
-no fault.
+no fault. What is refused is told with the header or the entry at fault, the
+field that is wrong, what stands in it and what should.
 
 A file that is there already is left as it is, unless --force is given; then it
 is replaced in one step, so that a failure leaves it whole. The image itself is
@@ -87,11 +88,6 @@ fn read(matches: &ArgMatches) -> Result<Job, String> {
     }
     let (wanted, more) = WantedEntry::read(matches, &[FILE])?;
     Ok(Box::new(move || one::run(&image, wanted, &more[0], force)))
-}
-
-/// The bytes that the library pointed out.
-fn bytes_of(image: &[u8], part: Part) -> &[u8] {
-    &image[part.place as usize..][..part.length as usize]
 }
 
 /// What is told of bytes that are written.

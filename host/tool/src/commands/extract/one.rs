@@ -1,10 +1,10 @@
 //! The bytes of one entry, into a file or to standard output.
 
-use super::{bytes_of, told};
+use super::told;
 use crate::arguments::wanted_entry::{WantedDirectory, WantedEntry};
-use crate::shown::entry::EntryShown;
+use crate::shown::entry::{bytes_of, EntryShown};
 use crate::shown::forms;
-use crate::shown::repeats;
+use crate::shown::places::Refused;
 use crate::system::ending::Ending;
 use crate::system::files::{self, quoted_name};
 use crate::system::messages::say;
@@ -18,12 +18,13 @@ pub fn run(name: &OsStr, wanted: WantedEntry, file: &OsStr, force: bool) -> Endi
     let to_output = file == "-";
     files::asked(name, |image| match part(image, wanted) {
         Err(refusal) => {
-            let told = repeats::told_of(image, wanted.directory, refusal);
-            let told = format!("{told}; nothing is written");
+            let told = Refused::by(image, refusal).text("; nothing is written");
             // Standard output has the bytes or nothing.
             let printed = match to_output {
-                true => said(&told),
-                false => print(&format!("{told}\n")),
+                true => told
+                    .lines()
+                    .fold(Ending::Done, |_, line| said(line.trim_start())),
+                false => print(&told),
             };
             printed.and(Ending::Refused)
         }

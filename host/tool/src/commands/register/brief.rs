@@ -5,6 +5,7 @@ use super::outcome::Outcome;
 use super::sources::Source;
 use crate::shown::names;
 use crate::shown::page::{Look, Page};
+use crate::shown::refusals;
 use crate::system::folding::kept;
 
 /// The firmware that has a column.
@@ -71,13 +72,13 @@ fn head(class: u8) -> &'static str {
 /// What is told of firmware: its version, `yes` where its bytes carry none, the number where it has no bytes, and `-` where it is
 /// not found.
 fn firmware(facts: Option<&Facts>, class: u8) -> String {
-    let row = match facts.and_then(|facts| facts.answer(class)?.ok()) {
+    let row = match facts.and_then(|facts| facts.asked(class)?.answer.ok()) {
         Some(found) => found.row,
         None => return String::from("-"),
     };
     match row.part {
         Ok(_) => row.version_words().unwrap_or_else(|| String::from("yes")),
-        Err(refusal) => refusal.to_string(),
+        Err(refusal) => refusals::number(refusal),
     }
 }
 

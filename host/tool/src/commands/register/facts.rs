@@ -1,10 +1,10 @@
 //! What the library says of one image: the answers that a register shows, and no others.
 
 use crate::shown::entry::EntryShown;
-use crate::shown::repeats;
+use crate::shown::places::Refused;
 use bindings::{
-    directories, directory, efs, find_image, pointer, version, view_entries, Answer, Directory,
-    Efs, Entered, EntryRow, ImageMatch, Part, Pointer, Refusal, Repeat, Words,
+    directories, directory, efs, find_image, pointer, view_entries, Answer, Directory, Efs,
+    Entered, ImageMatch, Pointer, Words,
 };
 
 /// The entry types that every register is asked for, by the lookup in the whole image and with subprogram 0. The first is
@@ -27,7 +27,7 @@ pub struct Facts {
     pub efs: Answer<Efs>,
     pub pointer: Answer<Pointer>,
     /// The first fault that the walk through all directories meets, where it meets one.
-    pub fault: Option<Refusal>,
+    pub fault: Option<Refused>,
     /// All directories that the walk enters, in its order. Where it meets a fault, level one and the level two of the lowest
     /// lead, as far as they are reached: calls of their own answer on these.
     pub directories: Vec<Listed>,
@@ -41,8 +41,8 @@ pub struct Listed {
     /// The index of the entry of level one that leads there; none of level one itself.
     pub lead: Option<u64>,
     pub directory: Answer<Directory>,
-    /// The entries that repeat, where the directory is refused for that.
-    pub repeat: Option<Repeat>,
+    /// Why it is refused, where it is.
+    pub refused: Option<Refused>,
     /// Every entry, in order; none where the directory is refused.
     pub entries: Vec<EntryShown>,
 }
@@ -51,6 +51,8 @@ pub struct Listed {
 pub struct Asked {
     pub class: u8,
     pub answer: Answer<Found>,
+    /// Why it is refused, where it is.
+    pub refused: Option<Refused>,
 }
 
 /// The entry that answers a question, and where it stands.
@@ -65,7 +67,7 @@ impl Facts {
     /// directory after another.
     pub fn of(image: &[u8], words: &mut Words) -> Facts {
         let walked = directories(image);
-        let fault = walked.as_ref().err().copied();
+        let fault = refused(image, &walked);
         let directories = match walked {
             Ok(entered) => entered
                 .iter()
@@ -90,15 +92,9 @@ impl Facts {
         &self.directories[0]
     }
 
-    /// The indices of the entries of level one that lead to level two.
-    pub fn leads(&self) -> Vec<u64> {
-        lead_indices(&self.level_one().entries).collect()
-    }
-
-    /// The answer to the question for a type that every register is asked for.
-    pub fn answer(&self, class: u8) -> Option<&Answer<Found>> {
-        let asked = self.asked.iter().find(|asked| asked.class == class);
-        asked.map(|asked| &asked.answer)
+    /// The question for a type that every register is asked for.
+    pub fn asked(&self, class: u8) -> Option<&Asked> {
+        self.asked.iter().find(|asked| asked.class == class)
     }
 
     /// The directory listed before this one that is the same: two entries may lead to one place.
@@ -111,17 +107,23 @@ impl Facts {
     }
 }
 
+/// What the library tells of a refusal.
+fn refused<T>(image: &[u8], answer: &Answer<T>) -> Option<Refused> {
+    let refusal = answer.as_ref().err();
+    refusal.map(|refusal| Refused::by(image, *refusal))
+}
+
 /// Level one, and where that is good and leads anywhere, the level two of its lowest lead.
 fn listed_before_a_fault(image: &[u8], words: &mut Words) -> Vec<Listed> {
     let one = Listed::of(image, 1, None, directory(image, 1), words);
-    let lowest = lead_indices(&one.entries).next();
+    let lowest = lowest_lead(&one.entries);
     let two = lowest.map(|lead| Listed::of(image, 2, Some(lead), directory(image, 2), words));
     std::iter::once(one).chain(two).collect()
 }
 
-fn lead_indices(entries: &[EntryShown]) -> impl Iterator<Item = u64> + '_ {
-    let leads = (0..).zip(entries);
-    leads.filter_map(|(index, row)| (row.entry.class == LEAD).then_some(index))
+fn lowest_lead(entries: &[EntryShown]) -> Option<u64> {
+    let mut indexed = (0..).zip(entries);
+    indexed.find_map(|(index, row)| (row.entry.class == LEAD).then_some(index))
 }
 
 impl Listed {
@@ -144,31 +146,23 @@ impl Listed {
         directory: Answer<Directory>,
         words: &mut Words,
     ) -> Listed {
-        let rows = directory.and_then(|found| rows(image, found.place, words));
+        let rows = directory.and_then(|found| rows(image, found, words));
         Listed {
             level,
             lead,
             directory,
-            repeat: repeats::in_level(image, level, directory.err()),
+            refused: refused(image, &directory),
             entries: rows.unwrap_or_default(),
         }
     }
 }
 
-/// Every entry of the directory at a place, which is checked once for all of them.
-fn rows(image: &[u8], place: u64, words: &mut Words) -> Answer<Vec<EntryShown>> {
-    let entries = view_entries(image, place as usize, words)?;
-    let rows = entries.rows().map(|EntryRow { entry, part }| EntryShown {
-        entry,
-        part,
-        version: part.ok().map(|part| version(bytes_of(image, part))),
-    });
+/// Every entry of a directory, which is checked once for all of them.
+fn rows(image: &[u8], directory: Directory, words: &mut Words) -> Answer<Vec<EntryShown>> {
+    let entries = view_entries(image, directory.place as usize, words)?;
+    let rows = (0..).zip(entries.rows());
+    let rows = rows.map(|(index, row)| EntryShown::of_row(image, directory, index, row));
     Ok(rows.collect())
-}
-
-/// The bytes that the library pointed out.
-fn bytes_of(image: &[u8], part: Part) -> &[u8] {
-    &image[part.place as usize..][..part.length as usize]
 }
 
 impl Asked {
@@ -177,7 +171,11 @@ impl Asked {
             let row = found_row(image, listed, at)?;
             Ok(Found { at, row })
         });
-        Asked { class, answer }
+        Asked {
+            class,
+            refused: refused(image, &answer),
+            answer,
+        }
     }
 }
 
@@ -211,7 +209,6 @@ mod tests {
             .map(|listed| (listed.level, listed.lead, listed.entries.len()))
             .collect();
         assert_eq!(listed, [(1, None, 5), (2, Some(3), 6)]);
-        assert_eq!(facts.leads(), [3]);
         assert_eq!(facts.fault, None);
     }
 
@@ -246,7 +243,7 @@ mod tests {
             let listed = facts.directories.into_iter();
             let listed = listed.map(|listed| listed.directory.err().map(|no| no.number));
             let listed: Vec<Option<u64>> = listed.collect();
-            (facts.fault.map(|no| no.number), listed)
+            (facts.fault.map(|no| no.refusal.number), listed)
         };
         board[two + 16] ^= 0xFF;
         assert_eq!(listed(&board), (Some(4), vec![None, Some(4)]));

@@ -11,6 +11,7 @@ use crate::shown::first_fields::name_for_programs;
 pub use crate::shown::first_fields::FORMAT;
 use crate::shown::json::{Fields, Json};
 use crate::shown::names;
+use crate::shown::places::Refused;
 use crate::shown::refusals;
 use bindings::{Answer, Repeat};
 
@@ -30,9 +31,14 @@ pub fn image(source: &Source, outcome: &Outcome) -> Json {
         ("verdict", Json::Text(judgement.verdict.for_programs())),
         (
             "refused",
-            Json::or_null(judgement.refusal, |refusal| Json::Number(refusal.number)),
+            Json::or_null(judgement.refused, |refused| {
+                Json::Number(refused.refusal.number)
+            }),
         ),
         ("where", Json::or_null(judgement.met.as_ref(), Json::text)),
+    ]);
+    fields.extend(Refused::fields(judgement.refused.as_ref()));
+    fields.extend([
         ("message", Json::or_null(message, Json::text)),
         (
             "length",
@@ -88,7 +94,11 @@ fn directory(listed: &Listed) -> Json {
         ("place", field(listed.directory, |found| found.place)),
         ("total", field(listed.directory, |found| found.total)),
         ("refused", refusals::json(&listed.directory)),
-        ("repeat", repeat(listed.repeat)),
+    ]);
+    fields.extend(Refused::fields(listed.refused.as_ref()));
+    let both = listed.refused.and_then(|refused| refused.repeat);
+    fields.extend([
+        ("repeat", repeat(both)),
         (
             "entries",
             Json::List(
@@ -128,7 +138,7 @@ fn asked(asked: &Asked) -> Json {
         .answer
         .ok()
         .and_then(|found| found.row.version_words());
-    Json::Object(vec![
+    let mut fields = vec![
         ("type", Json::Number(u64::from(asked.class))),
         ("name", name_of_type(u64::from(asked.class))),
         ("subprogram", Json::Number(0)),
@@ -137,8 +147,10 @@ fn asked(asked: &Asked) -> Json {
         ("index", field(asked.answer, |found| found.at.index)),
         ("tested", Json::or_null(tested, Json::Number)),
         ("refused", refusals::json(&asked.answer)),
-        ("version", Json::or_null(version, Json::Text)),
-    ])
+    ];
+    fields.extend(Refused::fields(asked.refused.as_ref()));
+    fields.push(("version", Json::or_null(version, Json::Text)));
+    Json::Object(fields)
 }
 
 fn name_of_type(class: u64) -> Json {
@@ -164,7 +176,7 @@ pub fn summary(summary: &Summary) -> Json {
 // ---- CSV: the same values, a row for each image, directory, entry and question
 
 /// The columns. A row fills those that its sort has, and leaves the others empty.
-const COLUMNS: [&str; 36] = [
+const COLUMNS: [&str; 43] = [
     "format",
     "row",
     "file",
@@ -201,6 +213,13 @@ const COLUMNS: [&str; 36] = [
     "repeat_earlier",
     "repeat_type",
     "repeat_subprogram",
+    "met_level",
+    "met_index",
+    "met_directory",
+    "wrong_field",
+    "wrong_bytes",
+    "wrong_stands",
+    "wrong_should",
 ];
 
 /// The line with the columns' names.
@@ -272,6 +291,9 @@ fn put_cells(cells: &mut Vec<(String, String)>, before: &str, fields: &[(&'stati
 
 #[cfg(test)]
 mod tests {
+    use super::super::facts::Facts;
+    use super::super::sample;
+    use super::super::verdict::Judgement;
     use super::*;
     use bindings::Words;
     use std::ffi::OsString;
@@ -289,11 +311,42 @@ mod tests {
         }
     }
 
+    /// What comes of the sample board with a damaged level two.
+    fn refused() -> Outcome {
+        let mut board = sample::board().expect("the sample can be made");
+        board[0x2_8010] ^= 0xFF;
+        let facts = Facts::of(&board, &mut Words::new());
+        Outcome {
+            judgement: Judgement::of(&facts),
+            facts: Ok(facts),
+        }
+    }
+
+    #[test]
+    fn a_refused_image_tells_where_and_what_is_wrong() {
+        let outcome = refused();
+        let json = image(&Source::Sample, &outcome).to_string();
+        let met = "\"met\": {\"level\": 2, \"index\": null, \"directory\": 163840}";
+        let wrong = "\"wrong\": {\"field\": 163844, \"bytes\": 4, \"stands\": \"0x";
+        // Of the image, of level two, and of each question whose answer stands behind the fault.
+        assert_eq!(json.matches(met).count(), 2 + 4, "{json}");
+        assert_eq!(json.matches(wrong).count(), 2 + 4, "{json}");
+        let rows = csv_rows(&Source::Sample, &outcome);
+        assert_eq!(
+            rows.matches(",2,,163840,163844,4,0x").count(),
+            2 + 4,
+            "{rows}"
+        );
+    }
+
     #[test]
     fn every_field_has_its_column_and_every_column_its_field() {
         let outcome = Outcome::of(&Source::Sample, &mut Words::new());
         let mut names = vec![String::from("format"), String::from("row")];
         names_in(&image(&Source::Sample, &outcome), "", &mut names);
+        // What is wrong in a directory is told of one that is refused.
+        names_in(&image(&Source::Sample, &refused()), "", &mut names);
+        names.retain(|name| !["met", "wrong"].contains(&name.as_str()));
         for name in &names {
             assert!(COLUMNS.contains(&name.as_str()), "{name}");
         }

@@ -2,35 +2,20 @@
 
 use super::facts::{Facts, Listed, BOOT_LOADER};
 use crate::shown::forms;
+use crate::shown::places::Refused;
 use bindings::Refusal;
 use std::fmt::Display;
 
-/// Where the walk through an image met its fault: before the directories, in one that is listed as refused, or in one that a lead
-/// behind the lowest leads to.
-pub fn fault(facts: &Facts) -> String {
-    let refused = |listed: &&Listed| listed.directory.is_err();
-    match (facts.efs, facts.pointer) {
-        (Err(refusal), _) if refusal.is(Refusal::IMAGE) => String::from("length"),
-        (Err(_), _) => String::from("EFS"),
-        (Ok(_), Err(_)) => String::from("pointers"),
-        (Ok(_), Ok(_)) => match facts.directories.iter().find(refused) {
-            Some(listed) => forms::level(listed.level),
-            None => of_a_later_lead(facts),
-        },
-    }
-}
-
-/// A level two that an entry behind the lowest lead leads to. The library tells the number of the fault, and not which of these
-/// entries leads there.
-pub fn of_a_later_lead(facts: &Facts) -> String {
-    let later = facts.leads().into_iter().skip(1);
-    let later: Vec<String> = later.map(|index| index.to_string()).collect();
-    let entries = match later.split_last() {
-        Some((last, [])) => last.clone(),
-        Some((last, before)) => format!("{} or {last}", before.join(", ")),
-        None => return forms::level(2),
+/// Where the walk through an image met its fault: in a directory, or before them all.
+pub fn fault(facts: &Facts, refused: &Refused) -> String {
+    let before = match (facts.efs, facts.pointer) {
+        (Err(refusal), _) if refusal.is(Refusal::IMAGE) => "length",
+        (Err(_), _) => "EFS",
+        (Ok(_), _) => "pointers",
     };
-    led(&forms::level(2), &entries)
+    refused
+        .place_words()
+        .unwrap_or_else(|| String::from(before))
 }
 
 /// A directory of level two with the entry that leads to it: `level 2 at 0x28000, led by entry 3 of level 1`.

@@ -106,7 +106,9 @@ level 2 that it leads to, and every entry: its type, subprogram, size and
 location, where its bytes lie in the image or why they do not, and the version
 that they carry. Last, the whole image is asked for the boot loader, the
 recovery boot loader, the secure OS and the SMU firmware, each with subprogram
-0. Of an image that is refused, what could be read before that is shown.
+0. Of an image that is refused, what could be read before that is shown, and of
+a fault in a directory its header or the entry, the field that is wrong and its
+place in the image, what stands in it and what should.
 
 Of a folder the files below it are taken, by name; links to folders are not
 followed. Without any word the register is that of the sample board.

@@ -1,18 +1,18 @@
 //! The register of an image for people: a table where the terminal is wide enough, else lines that fit it.
 
 use super::facts::{Asked, Facts, Found, Listed};
-use super::met::{led, of_a_later_lead};
+use super::met::led;
 use super::outcome::Outcome;
 use super::sources::Source;
 use super::summary::Summary;
-use super::verdict::{told, Judgement, Verdict};
+use super::verdict::{Judgement, Verdict};
 use crate::shown::entry::EntryShown;
 use crate::shown::forms;
 use crate::shown::names;
 use crate::shown::page::{Look, Page};
-use crate::shown::repeats;
+use crate::shown::places::Refused;
+use crate::shown::refusals::told_kept;
 use crate::system::folding::kept;
-use bindings::Refusal;
 
 /// What is shown of an image.
 pub fn image(page: &mut Page, source: &Source, outcome: &Outcome) {
@@ -52,13 +52,8 @@ fn headline(page: &mut Page, source: &Source, judgement: &Judgement) {
 
 /// What to do next.
 fn hints(source: &Source, judgement: &Judgement) -> Vec<String> {
-    match (judgement.refusal, judgement.verdict, source) {
-        (Some(refusal), ..) => {
-            let command = kept(&format!("`kpalumere explain {}`", refusal.number));
-            let explain = format!("{command} says what usually causes this, and what to look at.");
-            let first = first_to_check(refusal).map(String::from);
-            first.into_iter().chain([explain]).collect()
-        }
+    match (judgement.refused, judgement.verdict, source) {
+        (Some(refused), ..) => refused.hints(),
         (None, Verdict::NoBootLoader, _) => vec![String::from(
             "No directory has an entry of type 0x01 with subprogram 0x00, and no machine starts \
              without its boot loader.",
@@ -71,24 +66,12 @@ fn hints(source: &Source, judgement: &Judgement) -> Vec<String> {
     }
 }
 
-/// What to check before all else. A dump that is longer or shorter than its flash part is the usual cause of a signature or a
-/// place that is not there, and nothing else of the register tells it.
-fn first_to_check(refusal: Refusal) -> Option<&'static str> {
-    match refusal.number {
-        Refusal::SIGNATURE | Refusal::OUTSIDE => Some(
-            "Is the file as long as the flash part? Its last byte is taken for the one at \
-             0xffffffff, and all physical addresses go by that.",
-        ),
-        _ => None,
-    }
-}
-
 /// The way to level one: the EFS and its pointers.
 fn way(page: &mut Page, facts: &Facts) {
     let efs = match facts.efs {
         Ok(efs) => efs,
         Err(refusal) => {
-            let line = format!("EFS: {}", told(refusal));
+            let line = format!("EFS: {}", told_kept(refusal));
             page.add(Look::Bad, 2, 2, &line);
             return;
         }
@@ -109,7 +92,7 @@ fn way(page: &mut Page, facts: &Facts) {
         page.add(Look::Plain, 2, 2, &line);
     }
     if let Err(refusal) = facts.pointer {
-        let line = format!("pointers: {}", told(refusal));
+        let line = format!("pointers: {}", told_kept(refusal));
         page.add(Look::Bad, 2, 2, &line);
     }
 }
@@ -123,30 +106,27 @@ fn directories(page: &mut Page, facts: &Facts) {
         }
         directory(page, facts, listed);
     }
-    if let Some((look, line)) = not_listed(facts) {
+    if let Some((name, refused)) = not_listed(facts) {
         if is_parted {
             page.gap();
         }
-        page.add(look, 2, 2, &line);
+        directory_not_shown(page, &name, refused);
     }
 }
 
-/// Why a level two is not listed, where one is not.
-fn not_listed(facts: &Facts) -> Option<(Look, String)> {
+/// A level two that is not listed, where one is not, and why it is refused, where it is.
+fn not_listed(facts: &Facts) -> Option<(String, Option<Refused>)> {
     let two = forms::level(2);
-    if facts.level_one().directory.is_err() {
-        return Some((Look::Plain, format!("{two}: not reached")));
-    }
     match facts.directories.get(1) {
+        _ if facts.level_one().directory.is_err() => Some((format!("{two}: not reached"), None)),
         None => {
             let line = format!("{two}: none, for no entry of level 1 leads to it");
-            Some((Look::Plain, line))
+            Some((line, None))
         }
         // The lowest lead's is good, so that a fault is a later one's.
-        Some(listed) if listed.directory.is_ok() => facts.fault.map(|fault| {
-            let line = format!("{}: {}", of_a_later_lead(facts), told(fault));
-            (Look::Bad, line)
-        }),
+        Some(listed) if listed.directory.is_ok() => facts
+            .fault
+            .map(|fault| (format!("another {two}"), Some(fault))),
         Some(_) => None,
     }
 }
@@ -155,11 +135,13 @@ fn not_listed(facts: &Facts) -> Option<(Look, String)> {
 fn directory(page: &mut Page, facts: &Facts, listed: &Listed) {
     let found = match listed.directory {
         Ok(found) => found,
-        Err(refusal) => {
-            let (look, words) = refused_words(facts, listed, refusal);
-            let line = format!("{}: {words}", forms::level(listed.level));
-            page.add(look, 2, 2, &line);
-            return;
+        Err(_) => {
+            let name = forms::level(listed.level);
+            // One that the way does not reach was refused before, with the same number, and is shown so there.
+            return match facts.pointer {
+                Ok(_) => directory_not_shown(page, &name, listed.refused),
+                Err(_) => directory_not_shown(page, &format!("{name}: not reached"), None),
+            };
         }
     };
     let name = forms::directory(found.level, found.place);
@@ -179,15 +161,17 @@ fn directory(page: &mut Page, facts: &Facts, listed: &Listed) {
     }
 }
 
-/// Why a directory is not shown. One that the way does not reach was refused before, with the same number, and is shown so there.
-fn refused_words(facts: &Facts, listed: &Listed, refusal: Refusal) -> (Look, String) {
-    if listed.level == 1 && facts.pointer.is_err() {
-        return (Look::Plain, String::from("not reached"));
+/// A directory that is not shown: why it is refused, and on a line of its own where, what stands there and what should.
+fn directory_not_shown(page: &mut Page, name: &str, refused: Option<Refused>) {
+    match refused {
+        None => page.add(Look::Plain, 2, 2, name),
+        Some(refused) => {
+            page.add(Look::Bad, 2, 2, &format!("{name}: {}", refused.told()));
+            if let Some(found) = refused.found() {
+                page.add(Look::Bad, 4, 2, &found);
+            }
+        }
     }
-    let repeat = listed.repeat.map_or(String::new(), |repeat| {
-        format!("; {}", repeats::words(repeat))
-    });
-    (Look::Bad, format!("{}{repeat}", told(refusal)))
 }
 
 /// The entries of a directory: a table, or lines for each.
@@ -256,9 +240,9 @@ fn entry_lines(index: usize, row: &EntryShown) -> [String; 2] {
 
 /// A value is no fault; any other entry without bytes is shown as one.
 fn look_of(row: &EntryShown) -> Look {
-    match row.part.is_ok() || row.value().is_some() {
-        true => Look::Plain,
-        false => Look::Bad,
+    match row.refused {
+        None => Look::Plain,
+        Some(_) => Look::Bad,
     }
 }
 
@@ -267,7 +251,7 @@ fn bytes_words(row: &EntryShown) -> String {
     match (row.part, row.value()) {
         (Ok(part), _) => kept(&forms::range(part)),
         (Err(_), Some(value)) => kept(&format!("value {value:#x}")),
-        (Err(refusal), None) => told(refusal),
+        (Err(refusal), None) => told_kept(refusal),
     }
 }
 
@@ -308,7 +292,7 @@ fn answer_words(asked: &Asked) -> (Look, String) {
         }
         Err(refusal) => match refusal.tested {
             Some(count) => (Look::Plain, format!("none {}", tested_words(count))),
-            None => (Look::Bad, told(refusal)),
+            None => (Look::Bad, told_kept(refusal)),
         },
     }
 }

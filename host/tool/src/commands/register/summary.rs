@@ -13,8 +13,8 @@ pub struct Summary {
 impl Summary {
     pub fn count(&mut self, judgement: &Judgement) {
         *self.counts.entry(judgement.verdict).or_default() += 1;
-        if let (Verdict::Refused, Some(refusal)) = (judgement.verdict, judgement.refusal) {
-            *self.refused_by.entry(refusal.number).or_default() += 1;
+        if let (Verdict::Refused, Some(refused)) = (judgement.verdict, judgement.refused) {
+            *self.refused_by.entry(refused.refusal.number).or_default() += 1;
         }
     }
 

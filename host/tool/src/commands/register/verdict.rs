@@ -2,11 +2,9 @@
 
 use super::facts::{Facts, Found, BOOT_LOADER};
 use super::met;
-use crate::shown::forms;
 use crate::shown::page::Look;
-use crate::shown::refusals;
+use crate::shown::places::Refused;
 use crate::system::ending::Ending;
-use crate::system::folding::kept;
 use bindings::Refusal;
 
 /// What an image is found to be.
@@ -71,7 +69,7 @@ impl Verdict {
 pub struct Judgement {
     pub verdict: Verdict,
     /// What the image, or the part of its boot loader, is refused by.
-    pub refusal: Option<Refusal>,
+    pub refused: Option<Refused>,
     /// Where that was met, in words; of an image without a boot loader, where its type stands with another subprogram.
     pub met: Option<String>,
 }
@@ -80,59 +78,59 @@ impl Judgement {
     /// The judgement of an image that was not read.
     pub const NOT_READ: Judgement = Judgement {
         verdict: Verdict::NotRead,
-        refusal: None,
+        refused: None,
         met: None,
     };
 
     /// The judgement that follows from what the library says.
     pub fn of(facts: &Facts) -> Judgement {
-        if let Some(refusal) = facts.fault {
-            return Judgement::refused(facts, refusal);
+        if let Some(refused) = facts.fault {
+            return Judgement::refused(facts, refused);
         }
-        match facts.answer(BOOT_LOADER) {
-            Some(Ok(found)) => Judgement::of_boot_loader(found),
-            Some(Err(refusal)) if !refusal.is(Refusal::ABSENT) => {
-                Judgement::refused(facts, *refusal)
+        let asked = facts.asked(BOOT_LOADER);
+        let refused = asked.and_then(|asked| asked.refused);
+        match (asked.map(|asked| asked.answer), refused) {
+            (Some(Ok(found)), _) => Judgement::of_boot_loader(&found),
+            (_, Some(refused)) if !refused.refusal.is(Refusal::ABSENT) => {
+                Judgement::refused(facts, refused)
             }
             _ => Judgement {
                 verdict: Verdict::NoBootLoader,
-                refusal: None,
+                refused: None,
                 met: met::boot_loader_type(facts),
             },
         }
     }
 
-    fn refused(facts: &Facts, refusal: Refusal) -> Judgement {
+    fn refused(facts: &Facts, refused: Refused) -> Judgement {
         Judgement {
             verdict: Verdict::Refused,
-            refusal: Some(refusal),
-            met: Some(met::fault(facts)),
+            refused: Some(refused),
+            met: Some(met::fault(facts, &refused)),
         }
     }
 
-    fn of_boot_loader(Found { at, row }: &Found) -> Judgement {
-        match row.part {
-            Ok(_) => Judgement {
+    fn of_boot_loader(Found { row, .. }: &Found) -> Judgement {
+        match row.refused {
+            None => Judgement {
                 verdict: Verdict::Good,
-                refusal: None,
+                refused: None,
                 met: None,
             },
-            Err(refusal) => Judgement {
+            Some(refused) => Judgement {
                 verdict: Verdict::BootLoaderWithoutBytes,
-                refusal: Some(refusal),
-                met: Some(forms::entry(
-                    at.index,
-                    &forms::directory(at.level, at.place),
-                )),
+                refused: Some(refused),
+                met: refused.place_words(),
             },
         }
     }
 
     /// The judgement on one line: the verdict, the number with its words, and in brackets where.
     pub fn words(&self) -> String {
-        let words = match (self.verdict, self.refusal) {
-            (Verdict::Refused, Some(refusal)) => told(refusal),
-            (verdict, Some(refusal)) => format!("{}, {}", verdict.words(), told(refusal)),
+        let told = self.refused.map(|refused| refused.told());
+        let words = match (self.verdict, told) {
+            (Verdict::Refused, Some(told)) => told,
+            (verdict, Some(told)) => format!("{}, {told}", verdict.words()),
             (verdict, None) => String::from(verdict.words()),
         };
         match &self.met {
@@ -141,35 +139,52 @@ impl Judgement {
         }
     }
 
-    /// The same for a cell of a table: the verdict, and the number alone.
+    /// The same for a cell of a table: the verdict, the number alone, and the entry or the header.
     pub fn brief(&self) -> String {
-        match (self.verdict, self.refusal) {
-            (Verdict::Refused, Some(refusal)) => refusal.to_string(),
-            (verdict, Some(refusal)) => format!("{}, {refusal}", verdict.words()),
+        let brief = self.refused.map(|refused| refused.brief());
+        match (self.verdict, brief) {
+            (Verdict::Refused, Some(brief)) => brief,
+            (verdict, Some(brief)) => format!("{}, {brief}", verdict.words()),
             (verdict, None) => String::from(verdict.words()),
         }
     }
-}
-
-/// A refusal, whose number stays on the line of the word before it.
-pub fn told(refusal: Refusal) -> String {
-    refusals::told(refusal).replacen("refused ", &kept("refused "), 1)
 }
 
 #[cfg(test)]
 mod tests {
     use super::super::sample;
     use super::*;
+    use crate::shown::refusals;
     use crate::system::folding::on_one_line;
-    use bindings::Words;
+    use bindings::{Place, Words};
 
     fn facts() -> Facts {
         let board = sample::board().expect("the sample can be made");
         Facts::of(&board, &mut Words::new())
     }
 
-    fn no(number: u64) -> Refusal {
-        Refusal::alone(number)
+    fn no(number: u64) -> Refused {
+        Refused::by(&[], Refusal::alone(number))
+    }
+
+    /// A refusal that was met in the directory of a level, in an entry or in its header.
+    fn no_at(number: u64, level: u64, index: Option<u64>) -> Refused {
+        let place = Place {
+            level,
+            index,
+            directory: 0x2_1000,
+        };
+        let refusal = Refusal {
+            place: Some(place),
+            ..Refusal::alone(number)
+        };
+        Refused::by(&[], refusal)
+    }
+
+    /// The question for the boot loader is refused.
+    fn refuse_boot_loader(facts: &mut Facts, refused: Refused) {
+        facts.asked[0].answer = Err(refused.refusal);
+        facts.asked[0].refused = Some(refused);
     }
 
     /// The verdict with all its words, and in a cell.
@@ -192,7 +207,7 @@ mod tests {
     #[test]
     fn where_the_boot_loader_is_not_its_type_is_looked_for() {
         let mut facts = facts();
-        facts.asked[0].answer = Err(no(Refusal::ABSENT));
+        refuse_boot_loader(&mut facts, no(Refusal::ABSENT));
         facts.directories[1].entries[0].entry.class = 0x5B;
         let none = "no boot loader";
         assert_eq!(judged(&facts), told_as(Verdict::NoBootLoader, none, none));
@@ -216,7 +231,7 @@ mod tests {
     #[test]
     fn a_type_that_stands_in_one_of_several_is_told_with_the_place() {
         let mut facts = facts();
-        facts.asked[0].answer = Err(no(Refusal::ABSENT));
+        refuse_boot_loader(&mut facts, no(Refusal::ABSENT));
         facts.directories[1].entries[0].entry.subprogram = 2;
         facts.directories[0].level = 2;
         let met = Judgement::of(&facts).met;
@@ -230,12 +245,12 @@ mod tests {
     fn a_boot_loader_whose_part_is_refused_has_no_bytes() {
         let mut facts = facts();
         let mut found = facts.asked[0].answer.unwrap();
-        found.row.part = Err(no(Refusal::MODE));
+        found.row.refused = Some(no_at(Refusal::MODE, 2, Some(0)));
         facts.asked[0].answer = Ok(found);
         let expected = told_as(
             Verdict::BootLoaderWithoutBytes,
-            "boot loader without bytes, refused 16: address mode 3 (entry 0 of level 2 at 0x28000)",
-            "boot loader without bytes, refused 16",
+            "boot loader without bytes, refused 16: address mode 3 (entry 0 of level 2 at 0x21000)",
+            "boot loader without bytes, refused 16, entry 0 of level 2",
         );
         assert_eq!(judged(&facts), expected);
     }
@@ -243,44 +258,51 @@ mod tests {
     #[test]
     fn a_refused_image_tells_the_number_and_where_it_was_met() {
         let mut facts = facts();
-        let expect = |facts: &mut Facts, number: u64, met: &str| {
-            facts.fault = Some(no(number));
+        let expect = |facts: &mut Facts, fault: Refused, met: &str, brief: &str| {
+            facts.fault = Some(fault);
             let judgement = Judgement::of(facts);
             assert_eq!(judgement.verdict, Verdict::Refused);
-            assert_eq!(judgement.refusal, facts.fault);
+            assert_eq!(judgement.refused, facts.fault);
             assert_eq!(judgement.met.as_deref(), Some(met));
-            assert_eq!(judgement.brief(), format!("refused {number}"));
+            assert_eq!(judgement.brief(), brief);
         };
-        // The directories are good, so that it is one that is not listed.
-        facts.directories[0].entries[4].entry.class = 0x40;
-        let later = "level 2, led by entry 4 of level 1";
-        expect(&mut facts, Refusal::OUTSIDE, later);
-        facts.directories[0].entries[0].entry.class = 0x40;
-        facts.directories[0].entries[1].entry.class = 0x40;
-        let later = "level 2, led by entry 1, 3 or 4 of level 1";
-        expect(&mut facts, Refusal::OUTSIDE, later);
-        facts.directories[1].directory = Err(no(Refusal::MISPLACED));
-        expect(&mut facts, Refusal::MISPLACED, "level 2");
-        facts.directories[0].directory = Err(no(Refusal::CHECKSUM));
-        expect(&mut facts, Refusal::CHECKSUM, "level 1");
-        facts.pointer = Err(no(Refusal::ABSENT));
-        expect(&mut facts, Refusal::ABSENT, "pointers");
-        facts.efs = Err(no(Refusal::SIGNATURE));
-        expect(&mut facts, Refusal::SIGNATURE, "EFS");
-        facts.efs = Err(no(Refusal::IMAGE));
-        expect(&mut facts, Refusal::IMAGE, "length");
+        expect(
+            &mut facts,
+            no_at(Refusal::FIELD, 1, Some(300)),
+            "entry 300 of level 1 at 0x21000",
+            "refused 5, entry 300 of level 1",
+        );
+        expect(
+            &mut facts,
+            no_at(Refusal::CHECKSUM, 2, None),
+            "header of level 2 at 0x21000",
+            "refused 4, header of level 2",
+        );
+        // The way to level one has no header and no entry.
+        facts.pointer = Err(Refusal::alone(Refusal::ABSENT));
+        expect(&mut facts, no(Refusal::ABSENT), "pointers", "refused 8");
+        facts.efs = Err(Refusal::alone(Refusal::SIGNATURE));
+        expect(&mut facts, no(Refusal::SIGNATURE), "EFS", "refused 2");
+        facts.efs = Err(Refusal::alone(Refusal::IMAGE));
+        expect(&mut facts, no(Refusal::IMAGE), "length", "refused 15");
         let words = on_one_line(&Judgement::of(&facts).words());
         assert_eq!(
             words,
-            format!("{} (length)", refusals::told(no(Refusal::IMAGE)))
+            format!(
+                "{} (length)",
+                refusals::told(Refusal::alone(Refusal::IMAGE))
+            )
         );
     }
 
     #[test]
     fn a_question_that_meets_a_fault_refuses_the_image() {
         let mut facts = facts();
-        facts.asked[0].answer = Err(no(Refusal::OUTSIDE));
-        assert_eq!(Judgement::of(&facts).verdict, Verdict::Refused);
+        refuse_boot_loader(&mut facts, no_at(Refusal::OUTSIDE, 1, Some(3)));
+        let judgement = Judgement::of(&facts);
+        assert_eq!(judgement.verdict, Verdict::Refused);
+        let met = "entry 3 of level 1 at 0x21000";
+        assert_eq!(judgement.met.as_deref(), Some(met));
     }
 
     #[test]

@@ -5,6 +5,7 @@ use crate::arguments::words::{folder, force, required, word, FORCE};
 use crate::samples::board::board;
 use crate::samples::machines::{Machine, MACHINES};
 use crate::samples::recordings::{Recorded, RECORDINGS};
+use crate::samples::refused::REFUSED;
 use crate::shown::forms;
 use crate::shown::refusals;
 use crate::shown::shell;
@@ -49,7 +50,9 @@ FOLDER/boards gets a good board, which is the one that `kpalumere register`
 shows where no image is named, and five machines on which no boot loader is
 found, each for another reason. FOLDER/recordings gets two recordings of a sixth
 machine, where two programs shared a mailbox, for `kpalumere check`: as it was
-filed, and as it should be. docs/USER.md tells their story.
+filed, and as it should be. docs/USER.md tells their story. FOLDER/refused gets
+two boards more: one with a reserved bit set in entry 300 of 301, and one with a
+header as amdfwtool, coreboot's tool, writes it.
 
 Where a file of one of these names is there already, nothing is written, unless
 --force is given; then it is replaced in one step.
@@ -60,15 +63,16 @@ Try it:
   kpalumere check six/recordings/sixth-as-filed.check
 ";
 
-/// The folders in FOLDER: one holds images alone, so that a register can be made of all in it.
+/// The folders in FOLDER: two hold images alone, so that a register can be made of all in it.
 const BOARDS: &str = "boards";
 const OF_SIXTH: &str = "recordings";
+const NOT_ACCEPTED: &str = "refused";
 
 /// The name of the good board.
 const BOARD: &str = "sample-board.rom";
 
 /// What to do with the samples: a command, what it is done with, and the words that follow.
-const NEXT: [(&str, &str, &str); 5] = [
+const NEXT: [(&str, &str, &str); 6] = [
     ("register --brief", "boards", ""),
     (
         "find",
@@ -82,6 +86,7 @@ const NEXT: [(&str, &str, &str); 5] = [
     ),
     ("check", "recordings/sixth-as-filed.check", ""),
     ("check", "recordings/sixth-as-it-should-be.check", ""),
+    ("register --brief", "refused", ""),
 ];
 
 /// A sample, ready to be written.
@@ -117,8 +122,9 @@ fn written(folder: &Path, force: bool) -> Result<String, String> {
         .iter()
         .map(|sample| folder.join(sample.folder).join(sample.name))
         .collect();
-    let [boards, recordings] = [BOARDS, OF_SIXTH].map(|inner| folder.join(inner));
-    new_folder::made_ready(&[folder, &boards, &recordings], &files, force)?;
+    let [boards, recordings, refused] =
+        [BOARDS, OF_SIXTH, NOT_ACCEPTED].map(|inner| folder.join(inner));
+    new_folder::made_ready(&[folder, &boards, &recordings, &refused], &files, force)?;
     let mut told = String::new();
     for (file, Sample { bytes, .. }) in files.iter().zip(&samples) {
         let name = file.as_os_str();
@@ -137,19 +143,26 @@ fn samples() -> Answer<Vec<Sample>> {
         name: BOARD,
         bytes: board()?,
     }];
-    for Machine { name, make } in &MACHINES {
-        samples.push(Sample {
-            folder: BOARDS,
-            name,
-            bytes: make()?,
-        });
-    }
+    samples.extend(made(BOARDS, &MACHINES)?);
     samples.extend(RECORDINGS.iter().map(|Recorded { name, text }| Sample {
         folder: OF_SIXTH,
         name,
         bytes: text.as_bytes().to_vec(),
     }));
+    samples.extend(made(NOT_ACCEPTED, &REFUSED)?);
     Ok(samples)
+}
+
+/// The images of machines, for a folder.
+fn made(folder: &'static str, machines: &[Machine]) -> Answer<Vec<Sample>> {
+    let samples = machines.iter().map(|Machine { name, make }| {
+        Ok(Sample {
+            folder,
+            name,
+            bytes: make()?,
+        })
+    });
+    samples.collect()
 }
 
 /// The command lines to try, which can be typed as they stand.

@@ -1,0 +1,12 @@
+pub mod Refused
+pub mod Alone
+pub mod Checks
+pub mod Cookie
+pub mod Parts
+pub mod Flash
+pub mod Repeats
+pub mod Walk
+pub mod Place
+pub mod Nothing
+pub mod Told
+pub mod Wrong

@@ -1,0 +1,3 @@
+pub mod Where
+pub mod Told
+pub mod Wrong
