@@ -46,8 +46,8 @@ pub fn extend(buffer: &mut [u8], entry: &NewEntry) -> Answer<u64> {
 #[cfg(test)]
 mod tests {
     use super::*;
-    use crate::answer::{Place, Refusal};
-    use crate::sample::{directory_bytes, entry_bytes};
+    use crate::answer::Refusal;
+    use crate::sample::{directory_bytes, entry_bytes, met_at};
 
     /// The entry of value M2.
     const M2: NewEntry = NewEntry {
@@ -118,16 +118,7 @@ mod tests {
 
     /// The refusal of a directory at the buffer's start.
     fn met(number: u64, level: u64, index: Option<u64>) -> Refusal {
-        let directory = 0;
-        let place = Some(Place {
-            level,
-            index,
-            directory,
-        });
-        Refusal {
-            place,
-            ..Refusal::alone(number)
-        }
+        met_at(0, number, level, index)
     }
 
     #[test]

@@ -25,6 +25,11 @@ pub fn met_in_entry(number: u64, level: u64, index: u64) -> Refusal {
 
 fn met(number: u64, level: u64, index: Option<u64>) -> Refusal {
     let directory = if level == 1 { LEVEL_ONE } else { LEVEL_TWO };
+    met_at(directory, number, level, index)
+}
+
+/// The refusal that is met in the directory of a level that begins there: in an entry, or in the header.
+pub fn met_at(directory: u64, number: u64, level: u64, index: Option<u64>) -> Refusal {
     let place = Some(Place {
         level,
         index,
