@@ -1,4 +1,6 @@
 // All directories of a flash image, in lent words: level one, and those that its entries lead to.
+#![tactic(auto)]
+
 ghost use Rattle.std.specs.Prelude.{◌≡◌, true, [], ◌∷◌, ◌++◌, ◌+◌, ◌<◌, ◌≤◌, length, take};
 ghost use Rattle.reply.specs.Reply.{given, then};
 ghost use Rattle.directory.specs.Directory.{told_directory};
@@ -15,7 +17,7 @@ use entries::EntryAnswer;
 use reply::Fault;
 
 // What gathering answers: how many directories there are, or the first fault.
-#[derive(Drop)]
+#[derive(Clone, Copy)]
 enum Gathered {
     Given(u32),
     Refused(Fault),

@@ -1,4 +1,6 @@
 // All entries of the directory that a view holds, in lent words, each with its part or the number that refuses it. The directory is checked once.
+#![tactic(auto)]
+
 ghost use Rattle.std.specs.Prelude.{◌≡◌, ◌++◌, ◌+◌, ◌*◌, ◌≤◌, length, take, drop};
 ghost use Rattle.lent.specs.Lent.{number_for, words_for, number_left, words_left};
 ghost use Rattle.window.specs.Length.{longest};

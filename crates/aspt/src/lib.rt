@@ -1,5 +1,7 @@
 // The AMD Secure Processor Table (source 000), an ACPI table of 112 bytes: read, and checked before it is written, by document 01's rules.
 // The places of fields are those of the source's tables: Table 3, and for the structures Tables 5, 7 and 8.
+#![tactic(auto)]
+
 ghost use Rattle.std.specs.Prelude.{◌≡◌, true, ◌&&◌, [], ◌∷◌, length, leb, eqb, ◌+◌, ◌*◌, ◌%◌, ◌^◌};
 ghost use Rattle.aspt.specs.Rules.{done, sum_of, fresh, id_fits, in_space, registers_fit, structure_checks, structures_checks};
 ghost use Rattle.aspt.specs.Header.{table_length};
@@ -10,7 +12,7 @@ use reply::Refusal;
 
 // One of the three structures: its type, type 1's ID byte, and its register offsets in the order of the source's table.
 // A field that the type lacks is no part of it: read, it is 0; written, it is neither looked at nor kept.
-#[derive(Drop)]
+#[derive(Clone, Copy)]
 pub struct Structure {
     pub class: u16,
     pub id: u8,
@@ -51,7 +53,7 @@ impl Structure {
 }
 
 // What a table holds. The OEM ID's six bytes are the four of `oem_low` and the two of `oem_high`.
-#[derive(Drop)]
+#[derive(Clone, Copy)]
 pub struct Table {
     pub oem_low: u32,
     pub oem_high: u16,
@@ -110,14 +112,14 @@ impl Table {
 }
 
 // What a read answers.
-#[derive(Drop)]
+#[derive(Clone, Copy)]
 pub enum TableAnswer {
     Given(Table),
     Refused(Refusal),
 }
 
 // What checks answer, and a write.
-#[derive(Drop)]
+#[derive(Clone, Copy)]
 pub enum CheckAnswer {
     Accepted,
     Refused(Refusal),

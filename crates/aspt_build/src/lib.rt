@@ -1,5 +1,7 @@
 // The AMD Secure Processor Table (source 000), an ACPI table of 112 bytes: written by document 01's rules.
 // The places of fields are those of the source's tables: Table 3, and for the structures Tables 5, 7 and 8.
+#![tactic(auto)]
+
 ghost use Rattle.std.specs.Prelude.{◌≡◌, ◌++◌, length, drop, ◌+◌, ◌*◌, ◌/◌, ◌%◌, ◌≤◌};
 ghost use Rattle.le.specs.Le.{le_bytes, put_bytes, bytes_of};
 ghost use Rattle.aspt.specs.Header.{table_length};

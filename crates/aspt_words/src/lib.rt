@@ -1,5 +1,7 @@
 // The ASPT, in lent words. A table is twenty-two words: the OEM ID's six bytes as a number, the OEM table ID, the OEM revision, the
 // creator's ID and revision, the base address, the pages, then for each structure its type, its ID byte and its three register offsets.
+#![tactic(auto)]
+
 ghost use Rattle.std.specs.Prelude.{◌≡◌, cond, leb, ◌+◌, ◌≤◌, length};
 ghost use Rattle.lent.specs.Lent.{number_of, number_left, words_left};
 ghost use Rattle.aspt.specs.Calls.{read_of};

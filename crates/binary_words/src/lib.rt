@@ -1,4 +1,6 @@
 // The version in a firmware binary's header, and the checksum of lent bytes, each in one lent word.
+#![tactic(auto)]
+
 ghost use Rattle.std.specs.Prelude.{◌≡◌};
 ghost use Rattle.reply.specs.Reply.{given};
 ghost use Rattle.fletcher.specs.Fletcher.{fletcher_of};

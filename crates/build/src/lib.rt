@@ -1,4 +1,6 @@
 // A directory started at a buffer's start, and extended there by one entry.
+#![tactic(auto)]
+
 ghost use Rattle.std.specs.Prelude.{◌≡◌, ◌+◌, ◌*◌, ◌-◌, ◌<◌, ◌≤◌, ◌^◌, length};
 ghost use Rattle.reply.specs.Reply.{given};
 ghost use Rattle.le.specs.Le.{put_bytes};
@@ -12,7 +14,7 @@ use reply::Fault;
 use window::Offset;
 
 // What a writer is given of an entry: any numbers, since `extend` checks them.
-#[derive(Drop)]
+#[derive(Clone, Copy)]
 pub struct Fields {
     pub class: u8,
     pub subprogram: u8,
@@ -22,7 +24,7 @@ pub struct Fields {
 }
 
 // What a writer answers: the total of the directory it leaves, or why it left the buffer as it was.
-#[derive(Drop)]
+#[derive(Clone, Copy)]
 pub enum TotalAnswer {
     Given(u32),
     Refused(Fault),

@@ -1,4 +1,6 @@
 // Directories, started and extended in a lent buffer; the new total goes into lent words.
+#![tactic(auto)]
+
 ghost use Rattle.std.specs.Prelude.{◌≡◌, []};
 ghost use Rattle.reply.specs.Reply.{carried_of};
 ghost use Rattle.lent.specs.Lent.{lay_carried, number_of, number_for, number_left, words_left, bytes_left, lay_number};

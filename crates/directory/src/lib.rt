@@ -1,4 +1,6 @@
 // A directory at an offset of an image: its checks, and which of its entries repeat.
+#![tactic(auto)]
+
 ghost use Rattle.std.specs.Prelude.{◌≡◌, ◌<◌, ◌≤◌, ◌^◌, ◌+◌, ◌*◌, ◌/◌, ◌%◌, length, get_or, eqb, ltb, false, ◌||◌};
 ghost use Rattle.le.specs.Le.{bits_from};
 ghost use Rattle.le.specs.Field.{get};
@@ -14,7 +16,7 @@ use window::Offset;
 
 // What kinds of directory differ in: the cookies of the two levels, an entry's bytes, the type that leads to level two,
 // the type that holds a value, how many of an entry's flags are used, from the lowest up, and whether an entry may repeat an earlier type and subprogram.
-#[derive(Drop)]
+#[derive(Clone, Copy)]
 pub struct Kind {
     pub one: u32,
     pub two: u32,
@@ -55,7 +57,7 @@ pub fn psp_kind() -> Kind
 
 // A directory that was checked: where it begins, its level, and how many entries it has. Its fields are this crate's own, so that no caller can
 // make one by hand: the checks below give the only ones there are.
-#[derive(Drop)]
+#[derive(Clone, Copy)]
 pub struct Directory {
     place: Offset,
     level: u32,
@@ -94,7 +96,7 @@ impl Directory {
 }
 
 // What the checks of a directory answer.
-#[derive(Drop)]
+#[derive(Clone, Copy)]
 pub enum DirectoryAnswer {
     Given(Directory),
     Refused(Fault),
@@ -426,7 +428,7 @@ pub fn directory_by_cookie(image: &[u8], kind: Kind, limit: u32, at: Offset) -> 
 }
 
 // Two entries of one type and subprogram: the one that repeats, the earlier one, and what both have.
-#[derive(Drop)]
+#[derive(Clone, Copy)]
 pub struct Repeat {
     pub entry: u32,
     pub earlier: u32,
@@ -435,7 +437,7 @@ pub struct Repeat {
 }
 
 // Which entries repeat: the first such two, or why there are none.
-#[derive(Drop)]
+#[derive(Clone, Copy)]
 pub enum RepeatAnswer {
     Given(Repeat),
     Refused(Fault),

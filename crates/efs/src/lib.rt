@@ -1,4 +1,6 @@
 // From a flash image to its EFS and its directory pointer, and the rules that every call on an image goes by.
+#![tactic(auto)]
+
 ghost use Rattle.std.specs.Prelude.{◌≡◌};
 ghost use Rattle.window.specs.Window.{told_offset};
 ghost use Rattle.efs.specs.Rules.{rules_of};
@@ -10,7 +12,7 @@ use window::{Offset, OffsetAnswer, Physical};
 
 // What the calls on a flash image go by: the kind of directory, the largest total of one, the bytes of the window,
 // and the physical addresses where an EFS may be, in the order to try.
-#[derive(Drop)]
+#[derive(Clone, Copy)]
 pub struct Rules {
     pub kind: Kind,
     pub limit: u32,
@@ -24,7 +26,7 @@ impl Rules {
 }
 
 // An EFS: its place, and its two directory pointers as they stand.
-#[derive(Drop)]
+#[derive(Clone, Copy)]
 pub struct Efs {
     pub place: Offset,
     pub early: u32,
@@ -43,14 +45,14 @@ impl Efs {
 }
 
 // What a search for the EFS answers.
-#[derive(Drop)]
+#[derive(Clone, Copy)]
 pub enum EfsAnswer {
     Given(Efs),
     Refused(Refusal),
 }
 
 // The directory pointer: the offset of its field in the EFS, its value as it stands there, and the place where it leads.
-#[derive(Drop)]
+#[derive(Clone, Copy)]
 pub struct Pointer {
     pub field: u32,
     pub value: u32,
@@ -58,7 +60,7 @@ pub struct Pointer {
 }
 
 // What a search for the directory pointer answers.
-#[derive(Drop)]
+#[derive(Clone, Copy)]
 pub enum PointerAnswer {
     Given(Pointer),
     Refused(Refusal),

@@ -1,4 +1,6 @@
 // The entries of a directory: their fields, where their locations lead, and the lookup with its count.
+#![tactic(auto)]
+
 ghost use Rattle.std.specs.Prelude.{◌≡◌, ◌+◌, ◌≤◌, length};
 ghost use Rattle.reply.specs.Reply.{in_entry, met};
 ghost use Rattle.window.specs.Window.{told_offset};
@@ -12,7 +14,7 @@ use reply::{Fault, Met, Refusal};
 use window::{Offset, OffsetAnswer, Physical};
 
 // An entry's fields. A location of mode 0 is physical, of mode 1 a flash offset, and of mode 2 counts from the directory.
-#[derive(Drop)]
+#[derive(Clone, Copy)]
 pub struct Entry {
     pub class: u8,
     pub subprogram: u8,
@@ -22,7 +24,7 @@ pub struct Entry {
 }
 
 // What reading an entry answers.
-#[derive(Drop)]
+#[derive(Clone, Copy)]
 pub enum EntryAnswer {
     Given(Entry),
     Refused(Fault),
@@ -77,14 +79,14 @@ pub fn class_at(image: &[u8], kind: Kind, at: Offset, i: u32) -> u8
 }
 
 // An entry that leads to level two, and its index.
-#[derive(Drop)]
+#[derive(Clone, Copy)]
 pub struct Lead {
     pub index: u32,
     pub entry: Entry,
 }
 
 // What the search for one answers.
-#[derive(Drop)]
+#[derive(Clone, Copy)]
 pub enum LeadAnswer {
     Given(Lead),
     Refused(Fault),
@@ -110,14 +112,14 @@ pub fn lead_in(image: &[u8], kind: Kind, d: Directory) -> LeadAnswer
 }
 
 // A lookup's match: its index, and the number of entries tested.
-#[derive(Drop)]
+#[derive(Clone, Copy)]
 pub struct Match {
     pub index: u32,
     pub tested: u32,
 }
 
 // What a lookup answers: a match, how many entries were tested where none matches, or why there was no lookup.
-#[derive(Drop)]
+#[derive(Clone, Copy)]
 pub enum MatchAnswer {
     Given(Match),
     Absent(u32),
@@ -225,14 +227,14 @@ pub fn leads_to(image: &[u8], window: usize, at: Offset, e: Entry) -> OffsetAnsw
 }
 
 // A part of the image: where it begins, and its length.
-#[derive(Drop)]
+#[derive(Clone, Copy)]
 pub struct Part {
     pub place: Offset,
     pub length: usize,
 }
 
 // What the place of an entry's bytes answers.
-#[derive(Drop)]
+#[derive(Clone, Copy)]
 pub enum PartAnswer {
     Given(Part),
     Refused(Fault),

@@ -1,4 +1,6 @@
 // Builds a directory of each level in a buffer of 72 bytes, reads it back, and prints what each call answers.
+#![tactic(auto)]
+
 use build::{Fields, TotalAnswer};
 use directory::{Directory, DirectoryAnswer};
 use entries::EntryAnswer;

@@ -1,4 +1,6 @@
 // A fixed sequence of calls on a mailbox. Each call's answer is a line, in the words of the ask language.
+#![tactic(auto)]
+
 use libc::STDOUT_FILENO;
 use mailbox::Mailbox;
 use mailbox_calls::{AfterPost, AfterTake, PostAnswer, WordAnswer};

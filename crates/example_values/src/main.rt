@@ -1,4 +1,6 @@
 // Those of document 01's values to hold against the work that stand beside M1 to M10. Each call's answer is a line, in the words of the ask language.
+#![tactic(auto)]
+
 use aspt::{CheckAnswer, Structure, Table, TableAnswer};
 use build::Fields;
 use entries::PartAnswer;

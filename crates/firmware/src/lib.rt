@@ -1,31 +1,33 @@
 // The firmware behind the mailbox: the CmdResp word, the state with its fresh value, and one command run to its response.
+#![tactic(auto)]
+
 ghost use Rattle.std.specs.Prelude.{◌≡◌};
 ghost use Rattle.firmware.specs.Word.{word_of};
 ghost use Rattle.firmware.specs.Rules.{fresh_firmware, answers, holding, settled_of, delivery_of, run_of};
 
 // One of the three parts that commands 0x82 to 0x84 bring.
-#[derive(Drop)]
+#[derive(Clone, Copy)]
 pub enum Part {
     Absent,
     Held(u16),
 }
 
 // A descriptor, saved from its three parts, or none.
-#[derive(Drop)]
+#[derive(Clone, Copy)]
 pub enum Descriptor {
     Absent,
     Saved { part1: u16, part2: u16, part3: u16 },
 }
 
 // What is kept for one ID.
-#[derive(Drop)]
+#[derive(Clone, Copy)]
 pub struct Interrupt {
     pub descriptor: Descriptor,
     pub delivery: bool,
 }
 
 // The state: the interface, the parts held, and what is kept for each ID 0 to 63.
-#[derive(Drop)]
+#[derive(Clone, Copy)]
 pub struct Firmware {
     pub interface: bool,
     pub part1: Part,
@@ -35,7 +37,7 @@ pub struct Firmware {
 }
 
 // The state after a command, and the response word.
-#[derive(Drop)]
+#[derive(Clone, Copy)]
 pub struct Ran {
     pub firmware: Firmware,
     pub word: u32,

@@ -1,4 +1,6 @@
 // The calls on a flash image from its directory pointer on: the directories of both levels, their entries, their bytes, and the lookup in one of them.
+#![tactic(auto)]
+
 ghost use Rattle.std.specs.Prelude.{◌≡◌, true};
 ghost use Rattle.reply.specs.Reply.{refused, carried_of};
 ghost use Rattle.directory.specs.Directory.{told_directory};

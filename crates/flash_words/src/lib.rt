@@ -1,5 +1,7 @@
 // What the calls on a flash image give, in lent words: the EFS, the directory pointer, the directory of a level, which entries of it repeat, its entries,
 // and where their bytes lie. The lookups stand in `lookup_words`.
+#![tactic(auto)]
+
 ghost use Rattle.std.specs.Prelude.{◌≡◌};
 ghost use Rattle.lent.specs.Lent.{number_left, words_left};
 ghost use Rattle.efs.specs.Rules.{rules_of};

@@ -1,12 +1,14 @@
 // Document 01's checksum: Fletcher's 32-bit sum of a slice of bytes, taken as 16-bit words; a last odd byte is left out.
 // The two sums are folded once every 359 words, between which 32 bits hold them (specs/Fold.antt), and the words are added four at a time.
+#![tactic(auto)]
+
 ghost use Rattle.std.specs.Prelude.{◌≡◌, ◌+◌, ◌*◌, ◌-◌, ◌/◌, ◌%◌, ◌^◌, ◌<◌, ◌≤◌, length};
 ghost use Rattle.fletcher.specs.Fletcher.{fletcher_of, written_of};
 ghost use Rattle.fletcher.specs.Join.{joined_of, raised_of};
 ghost use Rattle.fletcher.specs.Run.{Folded, Reached, across_of, excess_of};
 
 // S and T, or numbers that come to the same modulo 65,535.
-#[derive(Drop)]
+#[derive(Clone, Copy)]
 struct Sums {
     sum: u32,
     weighted: u32,

@@ -1,4 +1,6 @@
 // The GUID table at the end of a guest firmware image: read and looked up.
+#![tactic(auto)]
+
 ghost use Rattle.std.specs.Prelude.{◌≡◌, ◌+◌, ◌-◌, ◌^◌, ◌<◌, ◌≤◌, length};
 ghost use Rattle.reply.specs.Reply.{given, then};
 ghost use Rattle.guids.specs.Ending.{end_length};
@@ -7,7 +9,7 @@ ghost use Rattle.guids.specs.Table.{length_at, guid_at, same_guid, footer, heade
 use reply::Refusal;
 
 // A GUID: its sixteen bytes in memory are those of `low`, then those of `high`, lowest first.
-#[derive(Drop)]
+#[derive(Clone, Copy)]
 pub struct Guid {
     pub low: u64,
     pub high: u64,
@@ -22,7 +24,7 @@ impl Guid {
 }
 
 // An entry: its GUID, and where in the image its data begins and how many bytes it has.
-#[derive(Drop)]
+#[derive(Clone, Copy)]
 pub struct GuidEntry {
     pub guid: Guid,
     pub place: usize,
@@ -41,7 +43,7 @@ impl GuidEntry {
 }
 
 // A table's total, in bytes, and the number of its entries.
-#[derive(Drop)]
+#[derive(Clone, Copy)]
 pub struct Totals {
     pub total: u32,
     pub entries: u32,
@@ -59,7 +61,7 @@ impl Totals {
 }
 
 // A lookup's match: its data's place and length, and the number of entries tested.
-#[derive(Drop)]
+#[derive(Clone, Copy)]
 pub struct GuidMatch {
     pub place: usize,
     pub length: usize,
@@ -67,28 +69,28 @@ pub struct GuidMatch {
 }
 
 // A length, or why there is none: a table's total, as read or as a start or an extend leaves it, an entry's, or that of a list of entries.
-#[derive(Drop)]
+#[derive(Clone, Copy)]
 pub enum LengthAnswer {
     Given(u32),
     Refused(Refusal),
 }
 
 // What a check of a table answers.
-#[derive(Drop)]
+#[derive(Clone, Copy)]
 pub enum TotalsAnswer {
     Given(Totals),
     Refused(Refusal),
 }
 
 // What the entry at a position is, or why there is none.
-#[derive(Drop)]
+#[derive(Clone, Copy)]
 pub enum GuidEntryAnswer {
     Given(GuidEntry),
     Refused(Refusal),
 }
 
 // What a lookup answers: the match, no such entry among so many tested, or why the table is refused.
-#[derive(Drop)]
+#[derive(Clone, Copy)]
 pub enum GuidMatchAnswer {
     Given(GuidMatch),
     Absent(u32),

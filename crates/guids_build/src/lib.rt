@@ -1,4 +1,6 @@
 // The GUID table at the end of a guest firmware image: started, and extended by one entry.
+#![tactic(auto)]
+
 ghost use Rattle.std.specs.Prelude.{◌≡◌, ◌+◌, ◌≤◌, length};
 ghost use Rattle.reply.specs.Reply.{given};
 ghost use Rattle.le.specs.Le.{put_bytes};

@@ -1,5 +1,7 @@
 // The GUID table at the end of a guest firmware image, in lent words. A GUID is given by its two halves: its sixteen bytes in memory are
 // those of `low`, then those of `high`, lowest first.
+#![tactic(auto)]
+
 ghost use Rattle.std.specs.Prelude.{◌≡◌, []};
 ghost use Rattle.lent.specs.Lent.{number_of, number_left, words_left, bytes_left, lay_number};
 ghost use Rattle.guids.specs.Table.{table_of, find_of, entry_of};

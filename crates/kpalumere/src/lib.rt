@@ -2,6 +2,8 @@
 // what it gives, or what its number carries, into lent words; 12, and nothing written, where those have no room. A refusal that was met
 // in a directory's header or entry leaves four words: 1 for a header or 2 for an entry, the level, the index (0 of a header), and where
 // the directory begins. The crates named `..._words` do it, and have the same contracts: an export is a call of one of theirs.
+#![tactic(auto)]
+
 mod aspt_table;
 mod binaries;
 mod checksum;

@@ -1,4 +1,6 @@
 // Lent words: how a call at the boundary hands its values over.
+#![tactic(auto)]
+
 ghost use Rattle.std.specs.Prelude.{◌≡◌};
 ghost use Rattle.reply.specs.Reply.{carried_of};
 ghost use Rattle.lent.specs.Lent.{lay_carried, number_for, words_for};

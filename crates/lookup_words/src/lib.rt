@@ -1,4 +1,6 @@
 // What the lookups give, in lent words: in the directory of a level, and in the whole image.
+#![tactic(auto)]
+
 ghost use Rattle.std.specs.Prelude.{◌≡◌};
 ghost use Rattle.lent.specs.Lent.{number_left, words_left};
 ghost use Rattle.efs.specs.Rules.{rules_of};

@@ -1,4 +1,6 @@
 // The mailbox: a line of accepted posts, eight caller places, and the register before the firmware; and whether it keeps document 01's rules.
+#![tactic(auto)]
+
 ghost use Rattle.std.specs.Prelude.{◌≡◌, ◌≤◌, take, eqb};
 ghost use Rattle.mailbox.specs.Machine.{fresh_mailbox};
 ghost use Rattle.mailbox.specs.Consistent.{post_fits, posts_fit, register_fits, once, times_in, register_holds, waits, caller_fits, all_below, consistent_of};
@@ -6,7 +8,7 @@ ghost use Rattle.mailbox.specs.Consistent.{post_fits, posts_fit, register_fits, 
 use firmware::Firmware;
 
 // What the register holds.
-#[derive(Drop)]
+#[derive(Clone, Copy)]
 pub enum Phase {
     Idle,
     Command { caller: u32, word: u32 },
@@ -14,7 +16,7 @@ pub enum Phase {
 }
 
 // Where a caller's untaken post is: there is none, it waits in line or register, or its word is here to be taken.
-#[derive(Drop)]
+#[derive(Clone, Copy)]
 pub enum PlaceState {
     Free,
     Waiting,
@@ -22,13 +24,13 @@ pub enum PlaceState {
 }
 
 // A caller's place.
-#[derive(Drop)]
+#[derive(Clone, Copy)]
 pub struct Place {
     pub state: PlaceState,
 }
 
 // A post in the line.
-#[derive(Drop)]
+#[derive(Clone, Copy)]
 pub struct Post {
     pub caller: u32,
     pub command: u16,
@@ -36,7 +38,7 @@ pub struct Post {
 }
 
 // The first `count` posts of the line wait, the oldest first.
-#[derive(Drop)]
+#[derive(Clone, Copy)]
 pub struct Mailbox {
     pub register: Phase,
     pub count: usize,

@@ -1,4 +1,6 @@
 // What callers do with a mailbox: a post and a take. Each gives the mailbox after it, beside its answer.
+#![tactic(auto)]
+
 ghost use Rattle.std.specs.Prelude.{◌≡◌, true, ◌≤◌};
 ghost use Rattle.reply.specs.Reply.{given, guard};
 ghost use Rattle.mailbox.specs.Machine.{state_of, is_free, joined};
@@ -9,28 +11,28 @@ use mailbox::{Mailbox, Place, PlaceState, Post};
 use reply::Refusal;
 
 // What a post answers.
-#[derive(Drop)]
+#[derive(Clone, Copy)]
 pub enum PostAnswer {
     Accepted,
     Refused(Refusal),
 }
 
 // What a take answers.
-#[derive(Drop)]
+#[derive(Clone, Copy)]
 pub enum WordAnswer {
     Word(u32),
     Refused(Refusal),
 }
 
 // The mailbox after a post, beside its answer.
-#[derive(Drop)]
+#[derive(Clone, Copy)]
 pub struct AfterPost {
     pub mailbox: Mailbox,
     pub answer: PostAnswer,
 }
 
 // The mailbox after a take, beside its answer.
-#[derive(Drop)]
+#[derive(Clone, Copy)]
 pub struct AfterTake {
     pub mailbox: Mailbox,
     pub answer: WordAnswer,

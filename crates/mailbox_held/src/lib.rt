@@ -1,4 +1,6 @@
 // Whether lent words begin with a mailbox's that keeps document 01's rules.
+#![tactic(auto)]
+
 ghost use Rattle.std.specs.Prelude.{◌≡◌, true, ◌&&◌, ℕ, ◌+◌, ◌<◌, ◌≤◌, length, get_or, take, eqb};
 ghost use Rattle.mailbox.specs.Consistent.{posts_fit, times_in, caller_fits, all_below, consistent_of};
 ghost use Rattle.mailbox_layout.specs.Layout.{start_of_places, start_of_interrupts, words_of_mailbox, up_to, phase_word, caller_word, word_word, part_word, place_word, interrupt_word};

@@ -1,4 +1,6 @@
 // The words of a mailbox's parts, and the parts of words. What stands where is told in specs/Layout.antt.
+#![tactic(auto)]
+
 ghost use Rattle.std.specs.Prelude.{◌≡◌, ◌≤◌};
 ghost use Rattle.mailbox_layout.specs.Layout.{bit_of, part_word, post_word, place_word, interrupt_word};
 ghost use Rattle.mailbox_layout.specs.Layout.{phase_from, part_from, post_from, place_from, interrupt_from};

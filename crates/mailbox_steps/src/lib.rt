@@ -1,4 +1,6 @@
 // The steps of a mailbox: a load, a turn and an unload. Each gives the mailbox after it, beside its answer.
+#![tactic(auto)]
+
 ghost use Rattle.std.specs.Prelude.{◌≡◌, true};
 ghost use Rattle.reply.specs.Reply.{given};
 ghost use Rattle.mailbox.specs.Machine.{shifted};
@@ -10,7 +12,7 @@ use mailbox::{Mailbox, Phase, Place, PlaceState, Post};
 use reply::Refusal;
 
 // What a load, a turn or an unload answers: whether it acted.
-#[derive(Drop)]
+#[derive(Clone, Copy)]
 pub enum StepAnswer {
     Yes,
     No,
@@ -18,7 +20,7 @@ pub enum StepAnswer {
 }
 
 // The mailbox after a load, a turn or an unload, beside its answer.
-#[derive(Drop)]
+#[derive(Clone, Copy)]
 pub struct AfterStep {
     pub mailbox: Mailbox,
     pub answer: StepAnswer,

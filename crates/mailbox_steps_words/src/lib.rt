@@ -1,4 +1,6 @@
 // A load and an unload of the mailbox that lent words begin with.
+#![tactic(auto)]
+
 ghost use Rattle.std.specs.Prelude.{◌≡◌, true, ◌<◌, ◌≤◌, length, get_or};
 ghost use Rattle.lent.specs.Lent.{words_for};
 ghost use Rattle.mailbox.specs.Machine.{with_oldest, handed_over};

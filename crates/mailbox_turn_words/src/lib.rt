@@ -1,4 +1,6 @@
 // A turn of the mailbox that lent words begin with: a command run on the firmware's words.
+#![tactic(auto)]
+
 ghost use Rattle.std.specs.Prelude.{◌≡◌, true, ◌≤◌, length};
 ghost use Rattle.firmware.specs.Word.{word_of};
 ghost use Rattle.firmware.specs.Rules.{holding, settled_of, delivery_of, run_of};

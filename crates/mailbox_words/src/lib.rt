@@ -1,5 +1,7 @@
 // The fresh mailbox in lent words, and what callers do with the mailbox that lent words begin with: a post and a take. Each looks at all its words, and
 // writes those that change.
+#![tactic(auto)]
+
 ghost use Rattle.std.specs.Prelude.{◌≡◌, true, ◌<◌, ◌≤◌, length, get_or};
 ghost use Rattle.lent.specs.Lent.{number_for, words_for};
 ghost use Rattle.mailbox.specs.Machine.{joined};

@@ -1,4 +1,6 @@
 // Marks of numbers that were seen: a bit for each, in words of 64.
+#![tactic(auto)]
+
 ghost use Rattle.std.specs.Prelude.{◌≡◌, ◌<◌, ◌/◌, ◌%◌, ◌^◌};
 ghost use Rattle.std.specs.Int.Bits.{bit_or};
 ghost use Rattle.marks.specs.Marks.{bit_of, kept_as};

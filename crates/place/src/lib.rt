@@ -1,4 +1,6 @@
 // A directory at a place of a lent image, checked again at each call without the EFS: its entries and their bytes; and what a view of a level holds.
+#![tactic(auto)]
+
 ghost use Rattle.std.specs.Prelude.{◌≡◌};
 ghost use Rattle.directory.specs.Directory.{told_directory};
 ghost use Rattle.entries.specs.Entry.{told_entry};

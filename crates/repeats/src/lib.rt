@@ -1,4 +1,6 @@
 // Which entries repeat in the directory of a level of a flash image, for a message that names both.
+#![tactic(auto)]
+
 ghost use Rattle.std.specs.Prelude.{◌≡◌, true};
 ghost use Rattle.reply.specs.Reply.{then};
 ghost use Rattle.directory.specs.Repeat.{told_repeat};

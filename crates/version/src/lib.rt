@@ -1,11 +1,13 @@
 // The firmware version in the header that a firmware binary begins with.
+#![tactic(auto)]
+
 ghost use Rattle.std.specs.Prelude.{◌≡◌};
 ghost use Rattle.version.specs.Version.{version_of, told_version};
 
 use reply::Refusal;
 
 // What a binary's first bytes answer: its version, or why there is none.
-#[derive(Drop)]
+#[derive(Clone, Copy)]
 pub enum VersionAnswer {
     Given(u32),
     Refused(Refusal),

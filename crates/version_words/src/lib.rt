@@ -1,5 +1,7 @@
 // The version of the firmware binary that an entry's bytes are, in one lent word. The entry is one of the directory of a level, or of the
 // directory that a view holds.
+#![tactic(auto)]
+
 ghost use Rattle.std.specs.Prelude.{◌≡◌};
 ghost use Rattle.lent.specs.Lent.{number_left, words_left, lay_number};
 ghost use Rattle.efs.specs.Rules.{rules_of};

@@ -1,5 +1,7 @@
 // A view of a directory: it holds the lent image and keeps the directory's place, and is checked again each time it is asked.
 // Each function over a view takes it apart and calls that of crate `place` on the image and the place.
+#![tactic(auto)]
+
 ghost use Rattle.std.specs.Prelude.{◌≡◌};
 ghost use Rattle.directory.specs.Directory.{told_directory};
 ghost use Rattle.entries.specs.Entry.{told_entry};
@@ -11,7 +13,7 @@ use entries::{EntryAnswer, PartAnswer};
 use window::Offset;
 
 // The lent image, and where in it the directory begins. A caller may make one of any image and any place.
-#[derive(Drop)]
+#[derive(Clone, Copy)]
 pub struct View<'a> {
     pub image: &'a [u8],
     pub place: Offset,

@@ -1,4 +1,6 @@
 // Views of a flash image's directories, in lent words. A view crosses the boundary as the lent image and a place.
+#![tactic(auto)]
+
 ghost use Rattle.std.specs.Prelude.{◌≡◌};
 ghost use Rattle.lent.specs.Lent.{number_left, words_left};
 ghost use Rattle.efs.specs.Rules.{rules_of};

@@ -1,4 +1,6 @@
 // The lookup in a whole flash image: a directory walk and an entry walk that call each other.
+#![tactic(auto)]
+
 ghost use Rattle.std.specs.Prelude.{◌≡◌, ◌+◌, ◌-◌, ◌<◌, ◌≤◌, length};
 ghost use Rattle.reply.specs.Reply.{refused, carried_of};
 ghost use Rattle.window.specs.Length.{longest};
@@ -15,7 +17,7 @@ use reply::Fault;
 use window::Offset;
 
 // A match in a whole image: its directory's place and level, its index, and the number of entries tested.
-#[derive(Drop)]
+#[derive(Clone, Copy)]
 pub struct ImageMatch {
     pub place: Offset,
     pub level: u32,
@@ -24,7 +26,7 @@ pub struct ImageMatch {
 }
 
 // What the lookup answers: a match, how many entries were tested where none matches, or the first fault.
-#[derive(Drop)]
+#[derive(Clone, Copy)]
 pub enum ImageMatchAnswer {
     Given(ImageMatch),
     Absent(u32),
@@ -32,7 +34,7 @@ pub enum ImageMatchAnswer {
 }
 
 // What the test of an entry comes to: a match, nothing, a directory to be walked before the next entry, or a fault.
-#[derive(Drop)]
+#[derive(Clone, Copy)]
 enum Probe {
     Match,
     Pass,
@@ -41,7 +43,7 @@ enum Probe {
 }
 
 // What a walk goes by: the rules of the image, and the type and subprogram looked for.
-#[derive(Drop)]
+#[derive(Clone, Copy)]
 struct Search {
     rules: Rules,
     class: u8,

@@ -1,5 +1,7 @@
 // A flash offset and an x86 physical address are different kinds of number, and the window is the only way from one to the other.
 // Every place in an image is told by an offset.
+#![tactic(auto)]
+
 ghost use Rattle.std.specs.Prelude.{◌≡◌, length, leb};
 ghost use Rattle.reply.specs.Reply.{given};
 ghost use Rattle.window.specs.Window.{window_start, offset_in, nearest_to, within, told_offset};
@@ -8,15 +10,15 @@ ghost use Rattle.window.specs.Length.{length_allowed};
 use reply::Refusal;
 
 // A place in a flash image, counted from its first byte.
-#[derive(Drop)]
+#[derive(Clone, Copy)]
 pub struct Offset(pub u32);
 
 // A place in the x86 physical address space.
-#[derive(Drop)]
+#[derive(Clone, Copy)]
 pub struct Physical(pub u64);
 
 // What is asked for an offset answers: an offset, or why there is none.
-#[derive(Drop)]
+#[derive(Clone, Copy)]
 pub enum OffsetAnswer {
     Given(Offset),
     Refused(Refusal),

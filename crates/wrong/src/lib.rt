@@ -1,4 +1,6 @@
 // What is wrong at a place that a refusal carries: the field, what stands there and what should, for a message to people.
+#![tactic(auto)]
+
 ghost use Rattle.std.specs.Prelude.{◌≡◌, ◌-◌, ◌<◌, ◌^◌, true, length};
 ghost use Rattle.reply.specs.Reply.{carried_of};
 ghost use Rattle.lent.specs.Lent.{number_left, words_left};
@@ -18,7 +20,7 @@ use window::Offset;
 // A field that is wrong: the number that refuses it, where it begins in the image and its bytes, what stands there, and what should. Of a 1 the bytes that
 // there are and should be; of a 3 and a 16 the largest that is allowed; of a 7 where the entry's bytes must end at the latest; of a 14 the level where the
 // type may stand; of a 17 the type that is a value; of an 18 the earlier entry.
-#[derive(Drop)]
+#[derive(Clone, Copy)]
 pub struct WrongField {
     pub number: u8,
     pub field: u64,
@@ -28,7 +30,7 @@ pub struct WrongField {
 }
 
 // What the question answers.
-#[derive(Drop)]
+#[derive(Clone, Copy)]
 pub enum WrongAnswer {
     Given(WrongField),
     Refused(Fault),
