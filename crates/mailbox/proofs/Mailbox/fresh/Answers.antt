@@ -1,0 +1,6 @@
+use Rattle.mailbox.proofs.LineLaws.{fresh-is}
+use borrow.Author.Rules.{rules}
+use Rattle.mailbox.proofs.Mailbox.fresh.Goals as goal
+
+pub returns : goal.returns
+returns c = search fresh-is

@@ -1,0 +1,14 @@
+use borrow.Author.Rules.{rules}
+use Prim.Native.Nat.{◌≤◌}
+use native.Mathlib.Omega.{arith}
+use mathlib.Core.Path.{◌≡◌, refl}
+use lib.ListN.{take}
+use Rattle.mailbox.specs.Consistent.{caller_fits, all_below}
+use Rattle.mailbox.proofs.ConsistentLaws.{all-step, all-stop, all_end}
+use Rattle.mailbox.proofs.callers_fit.Given as goal
+
+abbrev pub invariant-loop-caller : goal.invariant-loop-caller
+invariant-loop-caller l = (l.caller ≤ 8) × (all_below 8 (caller_fits (take l.n l.line) l.register l.places) ≡ all_below l.caller (caller_fits (take l.n l.line) l.register l.places))
+
+abbrev pub decreases-loop-caller : goal.decreases-loop-caller
+decreases-loop-caller l = l.caller
