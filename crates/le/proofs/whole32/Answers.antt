@@ -1,4 +1,3 @@
-use borrow.Author.Rules.{rules}
 use native.Mathlib.Omega.{arith}
 use Rattle.le.proofs.Laws.{le_split}
 use Rattle.le.proofs.whole32.Goals as goal
