@@ -1,0 +1,22 @@
+use mathlib.Core.Path.{◌≡◌, refl, sym, ap, ap₂, ◌∙◌}
+use mathlib.Core.Bool.{Bool, false, ◌||◌}
+use Prim.Native.Nat.{ℕ, ◌-◌, ◌/◌, ◌%◌, ◌<◌, ◌≤◌}
+use native.Mathlib.Omega.{arith}
+use borrow.Author.Rules.{rules}
+use borrow.Author.Tests.{leb-false}
+use lib.ListN.{length}
+use lib.Dec.{leb}
+use Rattle.le.specs.Le.{Bytes}
+use Rattle.reply.specs.Some.{some_below}
+use Rattle.reply.proofs.SomeLaws.{some_more, some-none}
+use Rattle.marks.proofs.Marks.{Marks, marks-none, marks-step}
+use Rattle.directory.specs.Looks.{head_at, faulty_head, bad_at}
+use Rattle.directory.proofs.Heads.{mark-tells}
+use Rattle.directory.proofs.Steps.{entry-inside, or-false}
+use Rattle.directory.proofs.bad_by_few_marks.Given as goal
+
+abbrev pub invariant-loop-i : goal.invariant-loop-i
+invariant-loop-i l = (l.i ≤ l.n) × (length l.seen ≡ 64) × (l.bad ≡ false → (some_below (bad_at l.kind l.level l.image l.at.0) l.i ≡ false) × Marks 64 (λ j. head_at l.kind l.image l.at.0 j % 65536) l.i l.seen)
+
+abbrev pub decreases-loop-i : goal.decreases-loop-i
+decreases-loop-i l = l.n - l.i

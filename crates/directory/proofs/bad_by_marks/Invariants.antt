@@ -1,0 +1,20 @@
+use mathlib.Core.Path.{◌≡◌, refl, sym, ap, ap₂, ◌∙◌}
+use mathlib.Core.Bool.{Bool, ◌||◌}
+use Prim.Native.Nat.{ℕ, ◌-◌, ◌%◌, ◌≤◌}
+use native.Mathlib.Omega.{arith}
+use borrow.Author.Rules.{rules}
+use lib.ListN.{length}
+use Rattle.le.specs.Le.{Bytes}
+use Rattle.reply.specs.Some.{some_below}
+use Rattle.reply.proofs.SomeLaws.{some_more, some-none}
+use Rattle.marks.proofs.Marks.{Marks, marks-none, marks-step}
+use Rattle.directory.specs.Looks.{head_at, faulty_head, bad_at}
+use Rattle.directory.proofs.Heads.{mark-tells}
+use Rattle.directory.proofs.Steps.{entry-inside}
+use Rattle.directory.proofs.bad_by_marks.Given as goal
+
+abbrev pub invariant-loop-i : goal.invariant-loop-i
+invariant-loop-i l = (l.i ≤ l.n) × (length l.seen ≡ 1024) × (l.bad ≡ some_below (bad_at l.kind l.level l.image l.at.0) l.i) × Marks 1024 (λ j. head_at l.kind l.image l.at.0 j % 65536) l.i l.seen
+
+abbrev pub decreases-loop-i : goal.decreases-loop-i
+decreases-loop-i l = l.n - l.i
