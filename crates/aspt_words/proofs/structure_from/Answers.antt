@@ -1,0 +1,5 @@
+use borrow.Author.Rules.{rules}
+use Rattle.aspt_words.proofs.structure_from.Goals as goal
+
+pub returns : goal.returns
+returns c = cc

@@ -1,0 +1,7 @@
+use Rattle.aspt_words.specs.AsptTable.{table_from}
+use borrow.Author.Rules.{rules}
+use Rattle.aspt_words.proofs.table_from.Goals as goal
+
+pub returns : goal.returns
+unfolding table_from
+returns c = cc

@@ -1,0 +1,23 @@
+use borrow.Author.Rules.{rules}
+use mathlib.Core.Path.{◌≡◌, refl, sym, ◌∙◌}
+use Prim.Native.Nat.{◌-◌, ◌≤◌}
+use native.Mathlib.Omega.{arith}
+use lib.ListN.{length, drop}
+use Rattle.guids_build.specs.Write.{all_zero}
+use Rattle.guids_build.proofs.Writing.{zero-step, zero-stop, zero-end}
+use Rattle.guids_build.proofs.all_zero.Goals as goal
+
+pub loop-i-init : goal.loop-i-init
+loop-i-init c = (omega arith, refl)
+
+pub returns-then-bytes-i-ne0 : goal.returns-then-bytes-i-ne0
+returns-then-bytes-i-ne0 c = let l = c.loop-i in
+    sym (zero-stop c.args.bytes.now l.i (omega arith) c.if-bytes-i-ne0.true) ∙ l.invariant.1
+
+pub loop-i-preserved : goal.loop-i-preserved
+loop-i-preserved c = let l = c.loop-i in
+    (omega arith, sym (zero-step c.args.bytes.now l.i (omega arith) c.if-bytes-i-ne0.false) ∙ l.invariant.1)
+
+pub returns : goal.returns
+returns c = let l = c.loop-i in
+    sym (zero-end c.args.bytes.now l.i (omega arith)) ∙ l.invariant.1

@@ -1,0 +1,7 @@
+use Rattle.guids_build.proofs.Writing.{put-end}
+use borrow.Author.Rules.{rules}
+use Rattle.guids_build.proofs.put_end.Goals as goal
+
+pub returns : goal.returns
+returns c = let f = c in
+    cc (put-end f.args.n f.args.guid f.args.buf.now f.args.at f.requires)
