@@ -1,0 +1,63 @@
+use borrow.Author.Rules.{rules}
+use Prim.Native.Nat.{◌≤◌}
+use native.Mathlib.Omega.{arith}
+use mathlib.Core.Path.{◌≡◌, refl}
+use lib.ListN.{take}
+use Rattle.mailbox.specs.Consistent.{caller_fits, all_below}
+use Rattle.mailbox.proofs.ConsistentLaws.{all_end}
+use Rattle.mailbox_layout.specs.Layout.{up_to, post_at, place_at}
+use Rattle.mailbox_held.proofs.FitLaws.{callers-step, callers-stop}
+use Rattle.mailbox_held.proofs.callers_fit.Goals as goal
+
+pub loop-caller-init : goal.loop-caller-init
+loop-caller-init c = (omega arith, refl)
+
+pub returns-then-times_in-holds : goal.returns-then-times_in-holds
+returns-then-times_in-holds c = let a = c.args in
+    let l = c.loop-caller in
+    callers-stop
+    a.words.now
+    a.n
+    a.register
+    l.caller
+    l.invariant.0
+    c.loop-caller-test.true
+    c.place_from-place.result
+    c.place_from-place.ensures
+    c.times_in.result
+    c.holds.result
+    c.waits.result
+    c.times_in.ensures.value
+    c.holds.ensures.value
+    c.waits.ensures
+    l.invariant.1
+    c.if-times_in-holds.true
+
+pub loop-caller-smaller : goal.loop-caller-smaller
+loop-caller-smaller c = omega arith
+
+pub loop-caller-preserved : goal.loop-caller-preserved
+loop-caller-preserved c = let a = c.args in
+    let l = c.loop-caller in (
+      omega arith,
+      callers-step
+          a.words.now
+          a.n
+          a.register
+          l.caller
+          l.invariant.0
+          c.loop-caller-test.true
+          c.place_from-place.result
+          c.place_from-place.ensures
+          c.times_in.result
+          c.holds.result
+          c.waits.result
+          c.times_in.ensures.value
+          c.holds.ensures.value
+          c.waits.ensures
+          l.invariant.1
+          c.if-times_in-holds.false,
+    )
+
+pub returns : goal.returns
+returns c = search (rules, all_end)

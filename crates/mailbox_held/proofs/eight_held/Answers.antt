@@ -1,0 +1,27 @@
+use borrow.Author.Rules.{rules}
+use Prim.Native.Nat.{◌≤◌, ◌+◌, ◌-◌}
+use native.Mathlib.Omega.{arith}
+use mathlib.Core.Bool.{true}
+use mathlib.Core.Path.{◌≡◌}
+use Rattle.mailbox_held.specs.Held.{held_between}
+use Rattle.mailbox_held.proofs.HeldLaws.{between_none, eight-zero, eight-step, eight-stop, between-end}
+use Rattle.mailbox_held.proofs.eight_held.Goals as goal
+
+pub returns-then-four_zero-2 : goal.returns-then-four_zero-2
+returns-then-four_zero-2 c = let a = c.args in
+    eight-zero a.words.now a.at (search rules) (search rules) (c.four_zero.ensures c.if-four_zero.true) (c.four_zero-then-four_zero.ensures c.if-four_zero-2.true)
+
+pub loop-i-init : goal.loop-i-init
+loop-i-init c = (omega arith, omega arith, between_none _ _)
+
+pub returns-else-interrupt_held : goal.returns-else-interrupt_held
+returns-else-interrupt_held c = search (rules, eight-stop)
+
+pub loop-i-smaller : goal.loop-i-smaller
+loop-i-smaller c = omega arith
+
+pub loop-i-preserved : goal.loop-i-preserved
+loop-i-preserved c = (omega arith, omega arith, search (rules, eight-step))
+
+pub returns : goal.returns
+returns c = search (rules, between-end)

@@ -1,0 +1,25 @@
+use borrow.Author.Rules.{rules}
+use Prim.Native.Nat.{◌≤◌}
+use native.Mathlib.Omega.{arith}
+use mathlib.Core.Path.{◌≡◌, refl}
+use lib.ListN.{take}
+use Rattle.mailbox.specs.Consistent.{posts_fit}
+use Rattle.mailbox.proofs.ConsistentLaws.{fit-end}
+use Rattle.mailbox_layout.specs.Layout.{up_to, post_at}
+use Rattle.mailbox_held.proofs.FitLaws.{posts-step, posts-stop}
+use Rattle.mailbox_held.proofs.posts_fit.Goals as goal
+
+pub loop-i-init : goal.loop-i-init
+loop-i-init c = (omega arith, refl)
+
+pub loop-i-smaller : goal.loop-i-smaller
+loop-i-smaller c = omega arith
+
+pub loop-i-preserved : goal.loop-i-preserved
+loop-i-preserved c = (omega arith, search (rules, posts-step))
+
+pub returns-else-fits : goal.returns-else-fits
+returns-else-fits c = search (rules, posts-stop)
+
+pub returns : goal.returns
+returns c = search (rules, fit-end)
