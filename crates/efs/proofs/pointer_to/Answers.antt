@@ -13,8 +13,7 @@ use Rattle.window.specs.declared.OffsetAnswer.{OffsetAnswer}
 use Rattle.window.specs.declared.OffsetAnswer.TheVariants as offset_answer
 use Rattle.window.proofs.Inside.{offset-fact, below-window}
 use Rattle.efs.specs.Efs.{pointer_to}
-use Rattle.efs.proofs.pointer_to.Statement.{statement}
-use Rattle.efs.proofs.pointer_to.Tie as tie
+use Rattle.efs.proofs.pointer_to.Goals as goal
 
 module _ (window : ℕ) (s : List ℕ) (p : ℕ) (q : OffsetAnswer) (asked : told_offset q ≡ offset_in window p) where
   as-address : {x : Reply Offset} (o : Offset) → q ≡ offset_answer.Given o → x ≡ within s o.0 (given o) → x ≡ pointer_to window s p
@@ -35,38 +34,17 @@ module _ (window : ℕ) (s : List ℕ) (p : ℕ) (q : OffsetAnswer) (asked : tol
     unfolding pointer_to
     as-neither h = simp (lt-leb _ _ below, le-ltb _ _ h)
 
-offset-requires : tie.Need-offset-requires
-offset-requires c κs = search rules
+pub returns-then-p-window : goal.returns-then-p-window
+returns-then-p-window c = let f = c in
+    let a = f.args in
+    as-offset a.window a.image.now a.p _ f.offset.ensures _ c.in-Refused.is (omega arith) c.if-p-window.true c.within-then-p-window.ensures
 
-enum-known-o : tie.Need-enum-known-o
-enum-known-o c = search rules
+pub returns-in-Given : goal.returns-in-Given
+returns-in-Given c = let f = c in
+    let a = f.args in
+    as-address a.window a.image.now a.p _ f.offset.ensures _ c.in-Given.is c.within.ensures
 
-within-requires : tie.Need-within-requires
-within-requires c κs = search rules
-
-enum_told : tie.Need-enum-told
-enum_told c = search rules
-
-within-requires-2 : tie.Need-within-requires-2
-within-requires-2 c κs = search rules
-
-returns : tie.Need-returns
-returns c =
-    let f = c.before.before.before.before in
-    let a = f.before.before.args in
-    as-offset a.window a.image.now a.p _ f.offset.ensures _ c.before.before.enum_told.given.1 (omega arith) c.before.if1.true c.within2.ensures
-
-returns-2 : tie.Need-returns-2
-returns-2 c =
-    let f = c.before.before.before.before in
-    let a = f.before.before.args in
-    as-address a.window a.image.now a.p _ f.offset.ensures _ c.before.before.o.given.1 c.within.ensures
-
-returns-3 : tie.Need-returns-3
-returns-3 c =
-    let f = c.before.before.before in
-    let a = f.before.before.args in
-    as-neither a.window a.image.now a.p _ f.offset.ensures _ c.before.enum_told.given.1 (omega arith) c.if1.false
-
-pub pointer-to-spec : {M : Type 1} → statement M
-pointer-to-spec = tie.close (tie.spec offset-requires enum-known-o within-requires enum_told within-requires-2 returns returns-2 returns-3)
+pub returns-else-p-window : goal.returns-else-p-window
+returns-else-p-window c = let f = c in
+    let a = f.args in
+    as-neither a.window a.image.now a.p _ f.offset.ensures _ c.in-Refused.is (omega arith) c.if-p-window.false

@@ -1,0 +1,9 @@
+use mathlib.Core.Path.{ap, ◌∙◌}
+use borrow.Author.Rules.{rules}
+use Rattle.efs.specs.declared.Rules.{Rules}
+use Rattle.flash.specs.Flash.{flash_directory}
+use Rattle.flash.proofs.directory.Goals as goal
+
+pub returns : goal.returns
+returns c = let a = c.args in
+    c.flash_directory.ensures ∙ ap (λ (r : Rules). flash_directory r a.level a.image.now) c.rules_of.ensures
