@@ -16,6 +16,7 @@ use Rattle.mailbox.specs.Machine.{no_post, place_with, command_word, shifted, wi
 use Rattle.mailbox_layout.specs.Layout.{up_to, place_word, post_from, head_of, pack_of, unpack_of}
 use Rattle.mailbox_held.specs.Held.{held_in}
 use Rattle.mailbox_layout.proofs.LayoutLaws.{Whole, unpacked-whole}
+use Rattle.mailbox_steps_words.specs.Moved.{moved_up, last_moved}
 use Rattle.mailbox_words.proofs.StoredLaws.{laid_of, place_in, held-laid, laid-words}
 
 -- ---- on a mailbox that is laid out
@@ -31,29 +32,28 @@ module _ (m : Mailbox) (w : Whole m) (behind : List ℕ) where
 abbrev pub begun : (caller word : ℕ) → List ℕ → List ℕ
 begun caller word ws = set (set (set ws 0 1) 1 caller) 2 word
 
--- a word is as the next one
-abbrev moved_up : ℕ → List ℕ → List ℕ
-moved_up i ws = set ws i (get_or ws (suc i) 0)
-
 -- that, one post less in line, and n words of the line moved up
 abbrev pub moved : ℕ → (caller word : ℕ) → List ℕ → List ℕ
 moved zero caller word ws = set (begun caller word ws) 3 (get_or (begun caller word ws) 3 0 - 1)
 moved (suc n) caller word ws = moved_up (8 + n) (moved n caller word ws)
 
 abbrev pub advanced : (caller word : ℕ) → List ℕ → List ℕ
-advanced caller word ws = set (moved 7 caller word ws) 15 0
+advanced caller word ws = last_moved (moved 3 caller word ws)
 
 -- no store changes how many words there are
+last-long : (ws : List ℕ) → length (last_moved ws) ≡ length ws
+last-long ws = length-set _ 15 0 ∙ (length-set _ 14 _ ∙ (length-set _ 13 _ ∙ (length-set _ 12 _ ∙ length-set ws 11 _)))
+
 module _ (caller word : ℕ) (ws : List ℕ) where
   begun-long : length (begun caller word ws) ≡ length ws
   begun-long = length-set (set (set ws 0 1) 1 caller) 2 word ∙ (length-set (set ws 0 1) 1 caller ∙ length-set ws 0 1)
 
   moved-long : (n : ℕ) → length (moved n caller word ws) ≡ length ws
   moved-long zero = length-set (begun caller word ws) 3 (get_or (begun caller word ws) 3 0 - 1) ∙ begun-long
-  moved-long (suc n) = length-set (moved n caller word ws) (8 + n) (get_or (moved n caller word ws) (suc (8 + n)) 0) ∙ moved-long n
+  moved-long (suc n) = length-set (moved n caller word ws) (8 + n) (get_or (moved n caller word ws) (8 + n + 1) 0) ∙ moved-long n
 
   pub advanced-long : length (advanced caller word ws) ≡ length ws
-  advanced-long = length-set (moved 7 caller word ws) 15 0 ∙ moved-long 7
+  advanced-long = last-long (moved 3 caller word ws) ∙ moved-long 3
 
   module _ (long : 88 ≤ length ws) (i : ℕ) (p : ltb i 88 ≡ true) where
     below : (l : List ℕ) → length l ≡ length ws → i < length l

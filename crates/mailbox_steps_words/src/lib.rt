@@ -7,9 +7,22 @@ ghost use Rattle.mailbox.specs.Machine.{with_oldest, handed_over};
 ghost use Rattle.mailbox_layout.specs.Layout.{words_of_mailbox, pack_of, unpack_of};
 ghost use Rattle.mailbox_held.specs.Held.{held_in};
 ghost use Rattle.mailbox_words.specs.Calls.{load_on, unload_on};
+ghost use Rattle.mailbox_steps_words.specs.Moved.{last_moved};
 
 use mailbox::{Phase, Place, PlaceState};
 use mailbox_layout::{CALLER, COUNT, LINE, PLACES, REGISTER, WORD};
+
+// Moves the line's last four posts up, words 12 to 15; the last place is empty then.
+fn move_last_up(words: &mut [u64])
+    requires { words_of_mailbox ≤ length words.old }
+    ensures { words.new ≡ last_moved words.old }
+{
+    words[11] = words[12];
+    words[12] = words[13];
+    words[13] = words[14];
+    words[14] = words[15];
+    words[15] = 0;
+}
 
 // Moves the oldest post into the register, which is idle; the others move up in the line's words 8 to 15.
 fn with_oldest(words: &mut [u64])
@@ -24,11 +37,7 @@ fn with_oldest(words: &mut [u64])
     words[LINE] = words[9];
     words[9] = words[10];
     words[10] = words[11];
-    words[11] = words[12];
-    words[12] = words[13];
-    words[13] = words[14];
-    words[14] = words[15];
-    words[15] = 0;
+    move_last_up(words);
 }
 
 // Moves the oldest post into an idle register.
