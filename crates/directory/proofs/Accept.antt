@@ -3,16 +3,16 @@ use mathlib.Core.Path.{◌≡◌, refl, sym, ap, subst, ◌∙◌}
 use mathlib.Core.Logic.{◌⊎◌, inl, inr}
 use mathlib.Core.List.{List}
 use mathlib.Core.Bool.{Bool, true, false, not, cond}
-use Prim.Native.Nat.{ℕ, ◌+◌, ◌*◌, ◌<◌, ◌≤◌}
+use Prim.Native.Nat.{ℕ, ◌+◌, ◌≤◌}
 use native.Mathlib.Omega.{arith}
-use borrow.Author.Tests.{leb-true, ltb-true, eqb-true, eqb-false, not-true, le-leb, lt-ltb, le-ltb, eq-eqb, ne_eqb}
-use lib.ListN.{length, get_or}
-use lib.Dec.{leb, ltb, eqb}
+use borrow.Author.Tests.{leb-true, eqb-true, eqb-false, not-true, le-leb, eq-eqb, ne_eqb}
+use lib.ListN.{length}
+use lib.Dec.{leb, eqb}
 use Rattle.le.specs.Le.{le_at}
 use Rattle.reply.specs.Reply.{Reply, given, refused, in_header}
-use Rattle.reply.proofs.ReplyLaws.{past, passed, failed, clash}
+use Rattle.reply.proofs.ReplyLaws.{past, passed, clash}
 use Rattle.reply.proofs.ScanLaws.{scan-kept, scan-through}
-use Rattle.directory.specs.Directory.{cookie_of, total_at, entry_place, checksum_at, reserved_zero, class_at, may_stand, may_repeat, entry_step, directory_of, entries_at, directory_checks, directory_at, directory_by_cookie}
+use Rattle.directory.specs.Directory.{cookie_of, total_at, entry_place, checksum_at, reserved_zero, class_at, may_stand, may_repeat, entry_step, directory_of, directory_checks, directory_at, directory_by_cookie}
 use Rattle.directory.specs.Good.{GoodEntry, First, GoodDirectory, Acceptance, CookieAcceptance}
 use Rattle.directory.proofs.Heads.{first-fact, first-test}
 use Rattle.directory.specs.declared.Kind.{Kind}

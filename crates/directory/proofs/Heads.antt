@@ -2,7 +2,7 @@
 use mathlib.Core.Path.{◌≡◌, refl, sym, ap, ap₂, ◌∙◌}
 use mathlib.Core.List.{List}
 use mathlib.Core.Bool.{Bool, true, false, not, ◌&&◌, ◌||◌}
-use Prim.Native.Nat.{ℕ, ◌+◌, ◌*◌, ◌/◌, ◌%◌, ◌<◌, ◌≤◌}
+use Prim.Native.Nat.{ℕ, ◌+◌, ◌*◌, ◌/◌, ◌%◌, ◌<◌}
 use native.Mathlib.Nat.{add-zero}
 use native.Mathlib.Omega.{arith}
 use borrow.Author.Tests.{eqb-true, eqb-false, not-true, eq-eqb, ne_eqb}
@@ -11,7 +11,6 @@ use lib.Dec.{eqb}
 use Rattle.le.specs.Le.{le_at, Bytes}
 use Rattle.le.proofs.Laws.{le_split, le-small}
 use Rattle.reply.proofs.ReplyLaws.{apart}
-use Rattle.reply.specs.Some.{some_below}
 use Rattle.reply.proofs.SomeLaws.{some_same, some-false, none_below}
 use Rattle.marks.specs.Marks.{bit_of, kept_as}
 use Rattle.marks.proofs.Marks.{Marks}

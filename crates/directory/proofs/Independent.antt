@@ -1,22 +1,18 @@
 -- Two images that agree on a directory's bytes have the same replies of it. Assumes nothing.
-use mathlib.Core.Path.{◌≡◌, sym, ap, ap₂, ◌∙◌}
+use mathlib.Core.Path.{◌≡◌, ap, ap₂}
 use mathlib.Core.List.{List}
-use Prim.Native.Nat.{ℕ, ◌+◌, ◌*◌, ◌-◌, ◌<◌, ◌≤◌, min}
+use Prim.Native.Nat.{ℕ, ◌+◌, ◌*◌, ◌<◌, ◌≤◌}
 use native.Mathlib.Nat.{mul-le-mul_right, add-mul}
 use native.Mathlib.Omega.{arith}
-use borrow.Author.Tests.{ltb-true}
-use lib.ListN.{length, get_or, take, drop, length-take, length-drop}
-use lib.Seq.{ext_get_or, get_or-take, get_or-drop}
-use lib.Dec.{leb, ltb, eqb}
-use mathlib.Core.Bool.{Bool, not, cond, ◌&&◌, ◌||◌}
+use lib.Dec.{leb, eqb}
+use mathlib.Core.Bool.{Bool, not, ◌&&◌, ◌||◌}
 use Rattle.le.specs.Le.{le_at}
 use Rattle.le.proofs.Laws.{le_same}
 use Rattle.le.proofs.Part.{part_same}
-use Rattle.reply.specs.Reply.{Reply, given, refused, alone, check, guard, then}
-use Rattle.reply.proofs.ReplyLaws.{check-same, then_same}
+use Rattle.reply.specs.Reply.{Reply, given, guard}
 use Rattle.reply.proofs.ScanLaws.{scan-same}
 use Rattle.directory.specs.Directory.{total_at, entry_place, class_at, subprogram_at, same_entry, may_repeat, entry_step, directory_of, entries_at, directory_checks, directory_at, directory_by_cookie}
-use Rattle.directory.specs.Independent.{Agree, end_of, Independence}
+use Rattle.directory.specs.Independent.{Agree, Independence}
 use Rattle.reply.proofs.SomeLaws.{some_same}
 use Rattle.directory.specs.declared.Kind.{Kind}
 use Rattle.directory.specs.declared.Directory.{Directory}

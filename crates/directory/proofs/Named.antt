@@ -1,18 +1,18 @@
 -- Two entries are named exactly where a directory is refused with 18. Assumes nothing.
 use mathlib.Core.Path.{◌≡◌, refl, sym, ap, ◌∙◌}
 use mathlib.Core.List.{List}
-use mathlib.Core.Bool.{Bool, true, false, not, cond, ◌&&◌, ◌||◌, and-eq-true_iff}
+use mathlib.Core.Bool.{Bool, true, false, not, cond, ◌||◌, and-eq-true_iff}
 use Prim.Native.Nat.{ℕ, zero, suc, ◌+◌, ◌<◌, ◌≤◌}
 use native.Mathlib.Omega.{arith}
 use borrow.Author.Tests.{eqb-true, eq-eqb, leb-true, ltb-true}
-use lib.ListN.{length, get_or}
-use lib.Dec.{leb, ltb, eqb}
+use lib.ListN.{length}
+use lib.Dec.{leb, eqb}
 use Rattle.le.specs.Le.{le_at}
-use Rattle.reply.specs.Reply.{Reply, Carried, given, refused, alone, in_entry, check}
+use Rattle.reply.specs.Reply.{Reply, Carried, given, refused, in_entry, check}
 use Rattle.reply.specs.Scan.{scan}
 use Rattle.reply.specs.Some.{some_below, first_below}
 use Rattle.reply.proofs.ReplyLaws.{clash, apart}
-use Rattle.reply.proofs.SomeLaws.{some-true, some_first, Found, first_found, none_below}
+use Rattle.reply.proofs.SomeLaws.{some-true, some_first, first_found, none_below}
 use Rattle.directory.specs.Directory.{cookie_of, total_at, entry_place, checksum_at, class_at, reserved_zero, may_stand, same_entry, repeats_earlier, may_repeat, entry_step, directory_of, entries_at, directory_checks, directory_at}
 use Rattle.directory.specs.Repeat.{earlier_of, repeat_in, named_by, repeated_at}
 use Rattle.directory.specs.Good.{Alike, FirstRepeat, NamesBoth}

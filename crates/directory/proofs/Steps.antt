@@ -1,12 +1,11 @@
 -- The answer of a directory's entries, by the first that is at fault. Assumes nothing.
-use mathlib.Core.Path.{◌≡◌, refl, sym, ap, ap₂, ◌∙◌}
+use mathlib.Core.Path.{◌≡◌, refl, sym, ap, ◌∙◌}
 use mathlib.Core.List.{List}
 use mathlib.Core.Bool.{Bool, true, false, not, cond, ◌&&◌, ◌||◌}
 use Prim.Native.Nat.{ℕ, zero, suc, ◌+◌, ◌*◌, ◌-◌, ◌/◌, ◌%◌, ◌^◌, ◌<◌, ◌≤◌}
 use native.Mathlib.Nat.{mul-le-mul_right, add-mul, div-eq_of_lt, div-div-eq-div-mul, le-div_iff_mul-le, pow-le-pow_right}
 use native.Mathlib.Omega.{arith}
-use borrow.Author.Tests.{lt-ltb, le-ltb, ltb-true, ltb-false, eq-eqb, ne_eqb}
-use lib.ListN.{get_or}
+use borrow.Author.Tests.{lt-ltb, ltb-true, ltb-false, eq-eqb, ne_eqb}
 use lib.Pow.{pow_pos}
 use lib.Dec.{ltb, eqb}
 use Rattle.le.specs.Le.{Bytes, bits_from}
@@ -16,8 +15,8 @@ use Rattle.reply.specs.Some.{some_below, first_below}
 use Rattle.reply.proofs.ReplyLaws.{passed, failed, apart}
 use Rattle.reply.proofs.ScanLaws.{scan-start, scan-end, scan-stop, scan-pass}
 use Rattle.reply.proofs.SomeLaws.{none_below, some_same, some_first, Found, first_found}
-use Rattle.directory.specs.Directory.{entry_place, class_at, reserved_zero, may_stand, repeats_earlier, may_repeat, entry_step, directory_of, entries_at}
-use Rattle.directory.specs.Looks.{head_at, flags_used, clear_below, faulty_head, faulty_at, bad_at, ended_at}
+use Rattle.directory.specs.Directory.{class_at, reserved_zero, may_stand, repeats_earlier, may_repeat, entry_step, directory_of, entries_at}
+use Rattle.directory.specs.Looks.{head_at, flags_used, clear_below, faulty_at, bad_at, ended_at}
 use Rattle.directory.specs.declared.Kind.{Kind}
 use Rattle.directory.specs.declared.Directory.{Directory}
 use Rattle.directory.proofs.Heads.{head-reserved, head-type, may-first, may-not, may-any}

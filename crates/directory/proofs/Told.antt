@@ -1,6 +1,5 @@
 -- What each answer tells is one-to-one, so a promise leaves one result. Assumes nothing.
 use mathlib.Core.Path.{◌≡◌, refl, ap}
-use Prim.Native.Nat.{ℕ}
 use Rattle.reply.specs.Reply.{Reply, given, refused}
 use Rattle.reply.specs.Back.{fault_by}
 use Rattle.reply.proofs.ReplyLaws.{one-by, fault-back}

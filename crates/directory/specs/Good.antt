@@ -2,8 +2,7 @@
 use Rattle.std.specs.Prelude.{ℕ, ◌<◌, ◌≤◌, ◌≡◌, ◌⊎◌, List, false, length}
 use Rattle.le.specs.Le.{bits_from}
 use Rattle.le.specs.Field.{get}
-use Rattle.reply.specs.Reply.{Carried, given, refused, alone, tested, OneToOne}
-use Rattle.reply.specs.Scan.{Lowest, None}
+use Rattle.reply.specs.Reply.{Carried, given, refused, OneToOne}
 use Rattle.directory.specs.Directory.{cookie_of, total_at, entry_place, checksum_at, class_at, subprogram_at, directory_at, directory_by_cookie, told_directory}
 use Rattle.directory.specs.Header as header
 use Rattle.directory.specs.Entry as entry

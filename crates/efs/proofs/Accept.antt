@@ -1,9 +1,9 @@
 -- The directory pointer is given exactly where it is that of the first EFS that counts. Assumes nothing.
 use mathlib.Core.Path.{◌≡◌, refl, sym, ap, subst, ◌∙◌}
-use mathlib.Core.Logic.{◌⊎◌, inl, inr}
+use mathlib.Core.Logic.{inl, inr}
 use mathlib.Core.List.{List}
 use mathlib.Core.Bool.{Bool, true, false, not, ◌&&◌, ◌||◌, cond, and-eq-true_iff}
-use Prim.Native.Nat.{ℕ, ◌+◌, ◌-◌, ◌<◌, ◌≤◌}
+use Prim.Native.Nat.{ℕ, ◌+◌, ◌-◌, ◌≤◌}
 use native.Mathlib.Omega.{arith}
 use borrow.Author.Tests.{leb-true, leb-false, ltb-true, eqb-true, not-true, le-leb, lt-leb, lt-ltb, eq-eqb}
 use lib.ListN.{length, get_or}
@@ -21,7 +21,6 @@ use Rattle.window.specs.declared.Offset.{Offset}
 use Rattle.efs.specs.Fields as efs
 use Rattle.efs.specs.Efs.{counts, candidate_at, or_else, efs_step, efs_place, efs_at, efs_in, absent, pointer_to, pointer_from, pointer_of, pointer_in}
 use Rattle.efs.specs.declared.Rules.{Rules}
-use Rattle.efs.specs.declared.Efs.{Efs}
 use Rattle.efs.specs.declared.Pointer.{Pointer}
 use Rattle.efs.specs.Good.{EfsAt, Absent, PointsTo, physical, flash, DirectoryPointer, late, early, GoodPointer, PointerAcceptance}
 

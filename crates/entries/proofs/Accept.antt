@@ -1,11 +1,11 @@
 -- An entry is given exactly where the index is below the total. Assumes nothing.
-use mathlib.Core.Path.{◌≡◌, refl, sym, ap, subst, ◌∙◌}
+use mathlib.Core.Path.{◌≡◌}
 use mathlib.Core.List.{List}
-use Prim.Native.Nat.{ℕ, ◌+◌, ◌*◌, ◌<◌, ◌≤◌}
-use borrow.Author.Tests.{leb-true, ltb-true, eqb-true, eqb-false, not-true, le-leb, lt-ltb, le-ltb, eq-eqb, ne_eqb}
-use lib.Dec.{leb, ltb, eqb}
-use Rattle.reply.specs.Reply.{Reply, given, refused, alone}
-use Rattle.reply.proofs.ReplyLaws.{past, passed, failed, clash}
+use Prim.Native.Nat.{ℕ, ◌<◌, ◌≤◌}
+use borrow.Author.Tests.{ltb-true, lt-ltb, le-ltb}
+use lib.Dec.{ltb}
+use Rattle.reply.specs.Reply.{given, refused, alone}
+use Rattle.reply.proofs.ReplyLaws.{past, passed, failed}
 use Rattle.entries.specs.Entry.{entry_of, entry_in}
 use Rattle.directory.specs.declared.Kind.{Kind}
 use Rattle.directory.specs.declared.Directory.{Directory}

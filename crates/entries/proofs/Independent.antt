@@ -1,26 +1,20 @@
 -- Two images that agree on a directory's bytes have the same replies of its entries. Assumes nothing.
-use mathlib.Core.Path.{◌≡◌, sym, ap, ap₂, ◌∙◌}
+use mathlib.Core.Path.{◌≡◌, ap, ◌∙◌}
 use mathlib.Core.List.{List}
-use Prim.Native.Nat.{ℕ, ◌+◌, ◌*◌, ◌-◌, ◌<◌, ◌≤◌, min}
-use native.Mathlib.Nat.{mul-le-mul_right, add-mul}
+use Prim.Native.Nat.{ℕ, ◌<◌, ◌≤◌}
 use native.Mathlib.Omega.{arith}
 use borrow.Author.Tests.{ltb-true}
-use lib.ListN.{length, get_or, take, drop, length-take, length-drop}
-use lib.Seq.{ext_get_or, get_or-take, get_or-drop}
+use lib.ListN.{length}
 use lib.Dec.{ltb, eqb}
-use mathlib.Core.Bool.{Bool, not, cond, ◌&&◌, ◌||◌}
-use Rattle.le.specs.Le.{le_at}
-use Rattle.le.proofs.Laws.{le_same}
-use Rattle.le.proofs.Part.{part_same}
+use mathlib.Core.Bool.{not, cond}
 use Rattle.reply.specs.Reply.{Reply, given, refused, alone, in_entry, check, then, met}
 use Rattle.reply.proofs.ReplyLaws.{check-same, then_same}
 use Rattle.reply.proofs.ScanLaws.{scan-same}
-use Rattle.directory.specs.Directory.{total_at, entry_place, same_entry, may_repeat, entry_step, directory_of, entries_at, directory_at, directory_by_cookie}
+use Rattle.directory.specs.Directory.{entry_place}
 use Rattle.entries.specs.Entry.{fields_at, entry_of, entry_in, lead_step, lead_in, find_step, find_in, matches, found_at, nowhere}
 use Rattle.entries.specs.Part.{place_in, leads_to, part_within, part_of, part_in}
 use Rattle.directory.specs.Independent.{Agree, end_of}
-use Rattle.entries.specs.Independent.{SameEntries, EntriesIndependence}
-use Rattle.reply.proofs.SomeLaws.{some_same}
+use Rattle.entries.specs.Independent.{EntriesIndependence}
 use Rattle.directory.specs.declared.Kind.{Kind}
 use Rattle.directory.specs.declared.Directory.{Directory}
 use Rattle.entries.specs.declared.Entry.{Entry}

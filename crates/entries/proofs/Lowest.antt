@@ -1,5 +1,5 @@
 -- A search among a directory's entries gives the lowest that fits, or that none does. Assumes nothing.
-use mathlib.Core.Path.{◌≡◌, refl, sym, ap, ◌∙◌}
+use mathlib.Core.Path.{◌≡◌, refl, sym, ◌∙◌}
 use mathlib.Core.List.{List}
 use mathlib.Core.Bool.{Bool, true, false, and-eq-true_iff}
 use Prim.Native.Nat.{ℕ, ◌+◌}

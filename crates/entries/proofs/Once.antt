@@ -6,15 +6,10 @@ use Prim.Native.Nat.{ℕ, ◌<◌}
 use native.Mathlib.Omega.{arith}
 use borrow.Author.Tests.{ltb-true, ltb-false}
 use lib.Dec.{ltb}
-use Rattle.reply.specs.Reply.{given}
-use Rattle.reply.specs.Scan.{Lowest}
-use Rattle.directory.specs.Directory.{directory_at}
-use Rattle.entries.specs.Entry.{find_in}
 use Rattle.directory.specs.Good.{GoodDirectory}
 use Rattle.entries.specs.Good.{Matches, NoRepeats}
 use Rattle.directory.specs.declared.Kind.{Kind}
 use Rattle.directory.specs.declared.Directory.{Directory}
-use Rattle.entries.specs.declared.Match.{Match}
 use Rattle.directory.proofs.Accept.{acceptance}
 use Rattle.entries.proofs.Lowest.{lowest-match}
 

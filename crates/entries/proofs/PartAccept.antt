@@ -1,12 +1,11 @@
 -- The part of an entry is given exactly where it is good. Assumes nothing.
-use mathlib.Core.Path.{◌≡◌, refl, sym, ap, ◌∙◌}
+use mathlib.Core.Path.{◌≡◌, refl, ap, ◌∙◌}
 use mathlib.Core.List.{List}
-use mathlib.Core.Bool.{Bool, true, false, not, cond}
-use Prim.Native.Nat.{ℕ, zero, suc, ◌+◌, ◌*◌, ◌/◌, ◌-◌, ◌^◌, ◌<◌, ◌≤◌}
-use native.Mathlib.Nat.{pow-suc}
+use mathlib.Core.Bool.{not}
+use Prim.Native.Nat.{ℕ, ◌+◌, ◌<◌, ◌≤◌}
 use native.Mathlib.Omega.{arith}
-use borrow.Author.Tests.{leb-true, eqb-true, eqb-false, not-true, le-leb, eq-eqb, ne_eqb}
-use lib.ListN.{length, get_or}
+use borrow.Author.Tests.{leb-true, eqb-true, eqb-false, not-true, le-leb, ne_eqb}
+use lib.ListN.{length}
 use lib.Dec.{leb, eqb}
 use Rattle.reply.specs.Reply.{Reply, given, in_entry, then, met}
 use Rattle.reply.proofs.ReplyLaws.{past, passed, then-given, either, met-given}
@@ -16,7 +15,7 @@ use Rattle.window.specs.declared.Offset.{Offset}
 use Rattle.directory.specs.Directory.{entry_place}
 use Rattle.entries.specs.Entry.{fields_at, entry_of, entry_in}
 use Rattle.entries.specs.Part.{place_in, leads_to, part_within, part_of, part_in}
-use Rattle.entries.specs.Good.{BeginsAt, physical, flash, counted, GoodPart, PartAcceptance, PartsAccepted}
+use Rattle.entries.specs.Good.{BeginsAt, physical, flash, counted, GoodPart, PartsAccepted}
 use Rattle.entries.proofs.Accept.{only-entry, all-entry}
 use Rattle.entries.proofs.Parts.{within-fact}
 use Rattle.directory.specs.declared.Kind.{Kind}

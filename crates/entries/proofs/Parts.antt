@@ -1,10 +1,10 @@
 -- Where a location leads and an entry's bytes lie, case by case, as the code comes to it; and that a part given lies in the image. Assumes nothing.
-use mathlib.Core.Path.{◌≡◌, sym, ap, ◌∙◌}
+use mathlib.Core.Path.{◌≡◌, ◌∙◌}
 use mathlib.Core.List.{List}
 use mathlib.Core.Bool.{Bool, true, false, not, cond}
-use Prim.Native.Nat.{ℕ, ◌+◌, ◌<◌, ◌≤◌}
+use Prim.Native.Nat.{ℕ, ◌+◌, ◌≤◌}
 use native.Mathlib.Omega.{arith}
-use borrow.Author.Tests.{leb-true, eq-eqb, ne_eqb}
+use borrow.Author.Tests.{leb-true, ne_eqb}
 use lib.ListN.{length}
 use lib.Dec.{leb, eqb}
 use Rattle.reply.specs.Reply.{Reply, given, refused, alone, then}

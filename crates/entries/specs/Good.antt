@@ -6,7 +6,7 @@ use Rattle.window.specs.Window.{four_gi_b}
 use Rattle.window.specs.Inside.{Shown}
 use Rattle.directory.specs.Directory.{directory_at}
 use Rattle.entries.specs.Entry.{entry_of, entry_in, lead_of, lead_in, find_in, told_entry, told_lead, told_match}
-use Rattle.entries.specs.Part.{part_of, part_in, told_part}
+use Rattle.entries.specs.Part.{part_in, told_part}
 use Rattle.directory.specs.declared.Kind.{Kind}
 use Rattle.directory.specs.declared.Directory.{Directory}
 use Rattle.entries.specs.declared.Entry.{Entry}

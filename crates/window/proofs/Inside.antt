@@ -9,7 +9,7 @@ use Rattle.reply.specs.Reply.{Carried, given, refused}
 use Rattle.reply.proofs.ReplyLaws.{past, passed, clash}
 use Rattle.window.specs.declared.Offset.{Offset}
 use Rattle.window.specs.Window.{four_gi_b, window_start, offset_in}
-use Rattle.window.specs.Inside.{Shown, WindowAcceptance, WindowsAccepted}
+use Rattle.window.specs.Inside.{Shown, WindowsAccepted}
 
 -- what the checks say of an address whose offset is given
 pub offset-fact : (window a : ℕ) (o : Offset) → offset_in window a ≡ given o → (window_start window ≤ a) × (a ≤ 0xFFFF_FFFF) × (a - window_start window ≡ o.0)

@@ -2,7 +2,6 @@
 use Rattle.std.specs.Prelude.{ℕ, ◌-◌, List, cond, length, leb}
 use Rattle.reply.specs.Reply.{Reply, given, refused, alone, guard}
 use Rattle.window.specs.declared.Offset.{Offset}
-use Rattle.window.specs.declared.Physical.{Physical}
 use Rattle.window.specs.declared.OffsetAnswer.{OffsetAnswer}
 use Rattle.window.specs.declared.OffsetAnswer.TheVariants as offset_answer
 

@@ -1,13 +1,13 @@
 use mathlib.Core.Path.{◌≡◌, refl, sym, ap, ap₂, ◌∙◌}
-use mathlib.Core.Bool.{Bool, ◌||◌}
-use Prim.Native.Nat.{ℕ, ◌-◌, ◌%◌, ◌≤◌}
+use mathlib.Core.Bool.{◌||◌}
+use Prim.Native.Nat.{ℕ, ◌%◌}
 use native.Mathlib.Omega.{arith}
 use borrow.Author.Rules.{rules}
 use lib.ListN.{length}
 use Rattle.le.specs.Le.{Bytes}
 use Rattle.reply.specs.Some.{some_below}
 use Rattle.reply.proofs.SomeLaws.{some_more, some-none}
-use Rattle.marks.proofs.Marks.{Marks, marks-none, marks-step}
+use Rattle.marks.proofs.Marks.{marks-none, marks-step}
 use Rattle.directory.specs.Looks.{head_at, faulty_head, bad_at}
 use Rattle.directory.proofs.Heads.{mark-tells}
 use Rattle.directory.proofs.Steps.{entry-inside}

@@ -1,16 +1,9 @@
-use mathlib.Core.Path.{◌≡◌, refl, sym, ap, ap₂, ◌∙◌}
-use mathlib.Core.Bool.{Bool, ◌||◌}
-use Prim.Native.Nat.{ℕ, ◌-◌, ◌%◌, ◌≤◌}
-use native.Mathlib.Omega.{arith}
-use borrow.Author.Rules.{rules}
+use mathlib.Core.Path.{◌≡◌}
+use Prim.Native.Nat.{◌-◌, ◌%◌, ◌≤◌}
 use lib.ListN.{length}
-use Rattle.le.specs.Le.{Bytes}
 use Rattle.reply.specs.Some.{some_below}
-use Rattle.reply.proofs.SomeLaws.{some_more, some-none}
-use Rattle.marks.proofs.Marks.{Marks, marks-none, marks-step}
-use Rattle.directory.specs.Looks.{head_at, faulty_head, bad_at}
-use Rattle.directory.proofs.Heads.{mark-tells}
-use Rattle.directory.proofs.Steps.{entry-inside}
+use Rattle.marks.proofs.Marks.{Marks}
+use Rattle.directory.specs.Looks.{head_at, bad_at}
 use Rattle.directory.proofs.bad_by_marks.Given as goal
 
 abbrev pub invariant-loop-i : goal.invariant-loop-i

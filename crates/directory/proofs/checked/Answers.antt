@@ -4,7 +4,6 @@ use native.Mathlib.Nat.{mul-le-mul}
 use native.Mathlib.Omega.{arith}
 use Rattle.directory.specs.Directory.{directory_checks}
 use Rattle.directory.proofs.Cases.{at-signature, at-limits, at_cut, at-sealed}
-use borrow.Author.Rules.{rules}
 use Rattle.directory.proofs.checked.Goals as goal
 use Rattle.directory.proofs.checked.Goals.{After-struct_known-2-1}
 

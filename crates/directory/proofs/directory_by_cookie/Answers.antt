@@ -1,7 +1,6 @@
 use borrow.Author.Tests.{lt-leb}
 use Rattle.directory.specs.Directory.{directory_by_cookie}
 use Rattle.directory.proofs.Cases.{by_one, by_two, by-neither}
-use borrow.Author.Rules.{rules}
 use Rattle.directory.proofs.directory_by_cookie.Goals as goal
 
 pub returns-then-image-o : goal.returns-then-image-o

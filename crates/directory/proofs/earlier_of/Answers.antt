@@ -1,13 +1,10 @@
 use mathlib.Core.Path.{◌≡◌, sym, ap, ◌∙◌}
 use mathlib.Core.List.{List}
 use mathlib.Core.Bool.{Bool, cond}
-use Prim.Native.Nat.{ℕ, ◌-◌, ◌≤◌}
+use Prim.Native.Nat.{ℕ}
 use native.Mathlib.Omega.{arith}
-use borrow.Author.Rules.{rules}
-use Rattle.reply.specs.Scan.{scan}
 use Rattle.reply.proofs.ScanLaws.{scan-start, scan-end, scan-stop, scan-pass}
 use Rattle.directory.specs.Directory.{same_entry}
-use Rattle.directory.specs.Repeat.{earlier_of}
 use Rattle.directory.specs.declared.Kind.{Kind}
 use Rattle.directory.proofs.earlier_of.Goals as goal
 

@@ -1,15 +1,13 @@
-use mathlib.Core.Path.{◌≡◌, sym, ap, ap₂, ◌∙◌}
+use mathlib.Core.Path.{sym, ap, ap₂, ◌∙◌}
 use mathlib.Core.Bool.{Bool, cond}
-use Prim.Native.Nat.{ℕ, ◌/◌, ◌<◌, ◌≤◌}
+use Prim.Native.Nat.{ℕ, ◌/◌}
 use native.Mathlib.Omega.{arith}
-use borrow.Author.Rules.{rules}
 use borrow.Author.Tests.{lt-ltb, le-ltb}
 use lib.ListN.{length}
-use lib.Dec.{ltb, eqb}
+use lib.Dec.{eqb}
 use Rattle.le.specs.Le.{Bytes, bits_from}
-use Rattle.reply.specs.Reply.{Reply, given, refused, in_entry}
-use Rattle.directory.specs.Directory.{entry_place, reserved_zero, directory_of}
-use Rattle.directory.specs.declared.Directory.{Directory}
+use Rattle.reply.specs.Reply.{given, refused, in_entry}
+use Rattle.directory.specs.Directory.{reserved_zero, directory_of}
 use Rattle.directory.proofs.Heads.{head-reserved}
 use Rattle.directory.proofs.Steps.{entry-inside}
 use Rattle.directory.proofs.ended_at.Goals as goal

@@ -1,14 +1,10 @@
-use mathlib.Core.Path.{◌≡◌, sym, ap, subst, ◌∙◌}
-use mathlib.Core.Bool.{Bool}
+use mathlib.Core.Path.{sym, ap, subst, ◌∙◌}
 use Prim.Native.Nat.{ℕ, ◌+◌, ◌*◌, ◌≤◌}
-use native.Mathlib.Omega.{arith}
-use borrow.Author.Rules.{rules}
 use lib.ListN.{length}
 use Rattle.le.specs.Le.{Bytes}
 use Rattle.reply.specs.Reply.{refused, in_entry}
-use Rattle.reply.specs.Some.{some_below, first_below}
 use Rattle.reply.proofs.SomeLaws.{Found, first_found}
-use Rattle.directory.specs.Looks.{faulty_at, bad_at}
+use Rattle.directory.specs.Looks.{faulty_at}
 use Rattle.directory.proofs.Steps.{fewer-inside, ends-any, ends-first, ends-good, ends-repeated}
 use Rattle.directory.proofs.entries_at.Goals as goal
 use Rattle.directory.proofs.entries_at.Goals.{After-first_fault-end-then-some_bad}

@@ -2,7 +2,6 @@ use mathlib.Core.Path.{refl}
 use Prim.Native.Nat.{◌*◌, ◌^◌, ◌≤◌}
 use native.Mathlib.Nat.{mul-le-mul}
 use native.Mathlib.Omega.{arith}
-use borrow.Author.Rules.{rules}
 use Rattle.directory.proofs.entry_place.Goals as goal
 use Rattle.directory.proofs.entry_place.Goals.{After-struct_known-2-1}
 
@@ -16,4 +15,4 @@ pub overflow_add-result-2 : goal.overflow_add-result-2
 overflow_add-result-2 c = omega (arith, small (goal.at.overflow_add-result-2 c).After-struct_known-2-1)
 
 pub returns : goal.returns
-returns c =  record { value = refl; upper_bound = omega (arith, small (goal.at.returns c).After-struct_known-2-1) }
+returns c = record { value = refl; upper_bound = omega (arith, small (goal.at.returns c).After-struct_known-2-1) }

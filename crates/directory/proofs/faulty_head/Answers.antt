@@ -1,7 +1,6 @@
 use mathlib.Core.Path.{sym, ap, ap₂, ◌∙◌}
 use mathlib.Core.Bool.{Bool, not, ◌&&◌}
 use Prim.Native.Nat.{◌%◌}
-use borrow.Author.Rules.{rules}
 use Rattle.directory.specs.Directory.{may_stand}
 use Rattle.directory.proofs.faulty_head.Goals as goal
 

@@ -1,16 +1,11 @@
-use mathlib.Core.Path.{◌≡◌, sym, ap, ◌∙◌}
+use mathlib.Core.Path.{◌≡◌}
 use mathlib.Core.List.{List}
-use mathlib.Core.Bool.{Bool, cond}
+use mathlib.Core.Bool.{cond}
 use Prim.Native.Nat.{ℕ, ◌-◌, ◌≤◌}
-use native.Mathlib.Omega.{arith}
-use borrow.Author.Rules.{rules}
-use lib.ListN.{length}
 use Rattle.reply.specs.Scan.{scan}
 use Rattle.reply.specs.Some.{first_below}
-use Rattle.reply.proofs.ScanLaws.{scan-start, scan-end, scan-stop, scan-pass}
-use Rattle.directory.specs.Looks.{faulty_head, faulty_at}
+use Rattle.directory.specs.Looks.{faulty_at}
 use Rattle.directory.specs.declared.Kind.{Kind}
-use Rattle.directory.proofs.Steps.{entry-inside}
 use Rattle.directory.proofs.first_fault.Given as goal
 
 abbrev step : Kind → ℕ → List ℕ → ℕ → ℕ → ℕ → ℕ

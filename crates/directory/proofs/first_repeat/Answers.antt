@@ -1,15 +1,13 @@
 use mathlib.Core.Path.{◌≡◌, refl, sym, ap, ◌∙◌}
 use mathlib.Core.List.{List}
 use mathlib.Core.Bool.{Bool, cond}
-use Prim.Native.Nat.{ℕ, ◌-◌, ◌%◌, ◌≤◌}
+use Prim.Native.Nat.{ℕ, ◌%◌}
 use native.Mathlib.Omega.{arith}
 use borrow.Author.Rules.{rules}
 use lib.ListN.{length}
 use Rattle.le.specs.Le.{Bytes}
-use Rattle.reply.specs.Scan.{scan}
-use Rattle.reply.specs.Some.{first_below}
 use Rattle.reply.proofs.ScanLaws.{scan-start, scan-end, scan-stop, scan-pass}
-use Rattle.marks.proofs.Marks.{Marks, marks-none, marks-step}
+use Rattle.marks.proofs.Marks.{marks-none, marks-step}
 use Rattle.directory.specs.Directory.{repeats_earlier}
 use Rattle.directory.specs.Looks.{head_at}
 use Rattle.directory.specs.declared.Kind.{Kind}

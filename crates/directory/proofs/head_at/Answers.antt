@@ -1,10 +1,6 @@
-use mathlib.Core.Path.{◌≡◌, refl, ap, ◌∙◌}
-use Prim.Native.Nat.{ℕ, ◌+◌, ◌*◌, ◌≤◌}
-use native.Mathlib.Omega.{arith}
-use lib.ListN.{length}
+use mathlib.Core.Path.{refl, ap, ◌∙◌}
 use Rattle.le.specs.Le.{le_at}
 use Rattle.le.proofs.Part.{le-own}
-use borrow.Author.Rules.{rules}
 use Rattle.directory.proofs.head_at.Goals as goal
 
 pub returns-then-kind-lt4 : goal.returns-then-kind-lt4

@@ -1,9 +1,7 @@
-use mathlib.Core.Path.{◌≡◌, ap, ◌∙◌}
+use mathlib.Core.Path.{ap, ◌∙◌}
 use Prim.Native.Nat.{ℕ, ◌+◌}
 use Rattle.le.specs.Le.{le_at}
-use borrow.Author.Rules.{rules}
 use Rattle.directory.specs.Repeat.{repeat_of}
-use Rattle.directory.specs.declared.Repeat.{Repeat}
 use Rattle.directory.proofs.repeat_in.Goals as goal
 
 pub returns : goal.returns

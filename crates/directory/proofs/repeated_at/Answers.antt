@@ -1,13 +1,11 @@
-use mathlib.Core.Path.{◌≡◌, sym, ap, subst, ◌∙◌}
+use mathlib.Core.Path.{sym, ap, subst, ◌∙◌}
 use mathlib.Core.Bool.{Bool, cond}
 use Prim.Native.Nat.{ℕ, ◌≤◌}
 use lib.ListN.{length}
-use borrow.Author.Rules.{rules}
 use borrow.Author.Tests.{eq-eqb, ne_eqb}
-use Rattle.reply.specs.Reply.{Reply, given, refused, carried_of}
+use Rattle.reply.specs.Reply.{given, refused, carried_of}
 use Rattle.directory.specs.Directory.{total_at, entry_place, told_directory}
 use Rattle.directory.specs.Repeat.{repeat_in, named_by}
-use Rattle.directory.specs.declared.Repeat.{Repeat}
 use Rattle.directory.proofs.Named.{entries-present}
 use Rattle.directory.proofs.repeated_at.Goals as goal
 

@@ -6,7 +6,6 @@ use lib.ListN.{take, drop}
 use Rattle.reply.proofs.ReplyLaws.{passed, failed}
 use Rattle.fletcher.specs.Fletcher.{fletcher_of}
 use Rattle.directory.specs.Directory.{checksum_at}
-use borrow.Author.Rules.{rules}
 use Rattle.directory.proofs.sealed.Goals as goal
 use Rattle.directory.proofs.sealed.Goals.{After-fletcher-sum}
 

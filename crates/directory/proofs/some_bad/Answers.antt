@@ -1,6 +1,4 @@
 use mathlib.Core.Path.{sym}
-use borrow.Author.Rules.{rules}
-use borrow.Author.Tests.{not-true}
 use Rattle.directory.proofs.some_bad.Goals as goal
 
 pub returns-then-not-bad_by_few_marks : goal.returns-then-not-bad_by_few_marks

@@ -1,9 +1,8 @@
-use mathlib.Core.Path.{◌≡◌, sym, ◌∙◌}
+use mathlib.Core.Path.{sym, ◌∙◌}
 use Rattle.reply.specs.Reply.{given, guard}
 use Rattle.reply.proofs.ReplyLaws.{passed, failed, then-told}
 use Rattle.window.specs.Window.{told_offset}
 use Rattle.efs.specs.Efs.{counts, candidate_at}
-use borrow.Author.Rules.{rules}
 use Rattle.efs.proofs.candidate_at.Goals as goal
 
 pub returns-then-counts : goal.returns-then-counts

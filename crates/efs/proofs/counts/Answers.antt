@@ -2,7 +2,6 @@ use borrow.Author.Tests.{le-leb, lt-leb}
 use mathlib.Core.Path.{ap}
 use Prim.Native.Nat.{ℕ}
 use lib.Dec.{eqb}
-use borrow.Author.Rules.{rules}
 use Rattle.efs.proofs.counts.Goals as goal
 
 pub returns-then-o-image : goal.returns-then-o-image

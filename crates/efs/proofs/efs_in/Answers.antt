@@ -1,9 +1,8 @@
-use mathlib.Core.Path.{◌≡◌, ap, ◌∙◌}
+use mathlib.Core.Path.{ap, ◌∙◌}
 use Rattle.reply.specs.Reply.{given}
 use Rattle.reply.proofs.ReplyLaws.{then-told}
 use Rattle.window.specs.Window.{told_offset}
 use Rattle.efs.specs.Efs.{efs_at}
-use borrow.Author.Rules.{rules}
 use Rattle.efs.proofs.efs_in.Goals as goal
 
 pub returns-in-Given : goal.returns-in-Given

@@ -1,14 +1,9 @@
-use mathlib.Core.Path.{◌≡◌, sym, ap, ◌∙◌}
+use mathlib.Core.Path.{◌≡◌}
 use Prim.Native.Nat.{◌-◌, ◌≤◌}
-use native.Mathlib.Omega.{arith}
-use borrow.Author.Rules.{rules}
 use lib.ListN.{length}
-use Rattle.reply.specs.Reply.{Reply, given, refused, alone}
+use Rattle.reply.specs.Reply.{refused, alone}
 use Rattle.reply.specs.Scan.{scan}
-use Rattle.reply.proofs.ScanLaws.{scan-start, scan-end, scan-stop, scan-pass}
-use Rattle.window.specs.Window.{told_offset}
-use Rattle.window.specs.declared.Offset.{Offset}
-use Rattle.efs.specs.Efs.{efs_place, efs_step, or_else}
+use Rattle.efs.specs.Efs.{efs_place, efs_step}
 use Rattle.efs.proofs.efs_place.Given as goal
 
 abbrev pub invariant-loop-i : goal.invariant-loop-i

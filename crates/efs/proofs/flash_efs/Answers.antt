@@ -1,5 +1,4 @@
 use mathlib.Core.Path.{ap, ◌∙◌}
-use borrow.Author.Rules.{rules}
 use Rattle.efs.specs.Efs.{efs_in}
 use Rattle.efs.specs.Rules.{rules_of}
 use Rattle.efs.specs.declared.Rules.{Rules}

@@ -1,8 +1,6 @@
-use mathlib.Core.Path.{◌≡◌}
 use Rattle.reply.specs.Reply.{given}
 use Rattle.reply.proofs.ReplyLaws.{then-told}
 use Rattle.window.specs.Window.{told_offset}
-use borrow.Author.Rules.{rules}
 use Rattle.efs.proofs.pointer_from.Goals as goal
 
 pub returns-in-Given : goal.returns-in-Given

@@ -1,7 +1,6 @@
-use mathlib.Core.Path.{◌≡◌, ◌∙◌}
+use mathlib.Core.Path.{◌∙◌}
 use Rattle.reply.proofs.ReplyLaws.{then-told}
 use Rattle.efs.specs.Efs.{pointer_of, told_efs}
-use borrow.Author.Rules.{rules}
 use Rattle.efs.proofs.pointer_in.Goals as goal
 
 pub returns-in-Given : goal.returns-in-Given

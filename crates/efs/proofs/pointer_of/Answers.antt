@@ -1,6 +1,5 @@
-use mathlib.Core.Path.{◌≡◌, sym, ◌∙◌}
+use mathlib.Core.Path.{sym, ◌∙◌}
 use Rattle.efs.specs.Efs.{pointer_of}
-use borrow.Author.Rules.{rules}
 use Rattle.efs.proofs.pointer_of.Goals as goal
 
 pub returns-then-absent-2 : goal.returns-then-absent-2

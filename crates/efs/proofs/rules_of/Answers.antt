@@ -1,7 +1,6 @@
-use mathlib.Core.Path.{◌≡◌, ap}
+use mathlib.Core.Path.{ap}
 use Prim.Native.Nat.{ℕ}
 use lib.ListN.{length}
-use borrow.Author.Rules.{rules}
 use Rattle.directory.specs.declared.Kind.{Kind}
 use Rattle.efs.specs.Rules.{base_rules}
 use Rattle.efs.specs.declared.Rules.{Rules}

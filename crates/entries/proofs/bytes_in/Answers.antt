@@ -7,7 +7,6 @@ use Rattle.entries.specs.Part.{part_in, bytes_of, begin_of, told_part}
 use Rattle.window.specs.Length.{sized}
 use Rattle.window.proofs.Length.{sized_past}
 use Rattle.entries.proofs.Parts.{part-inside}
-use borrow.Author.Rules.{rules}
 use Rattle.entries.proofs.bytes_in.Goals as goal
 use Rattle.entries.proofs.bytes_in.Goals.{After-struct_known-in-Given-1}
 

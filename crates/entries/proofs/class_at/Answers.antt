@@ -1,7 +1,6 @@
-use mathlib.Core.Path.{◌≡◌, ap, ◌∙◌}
+use mathlib.Core.Path.{ap, ◌∙◌}
 use Prim.Native.Nat.{ℕ, ◌+◌}
 use Rattle.le.specs.Le.{le_at}
-use borrow.Author.Rules.{rules}
 use Rattle.entries.proofs.class_at.Goals as goal
 
 pub returns : goal.returns

@@ -1,5 +1,4 @@
 use Rattle.entries.proofs.Cases.{entry_here, entry-behind}
-use borrow.Author.Rules.{rules}
 use Rattle.entries.proofs.entry_in.Goals as goal
 
 pub returns-then-i-total : goal.returns-then-i-total

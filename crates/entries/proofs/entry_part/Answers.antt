@@ -1,5 +1,4 @@
 use mathlib.Core.Path.{sym, ◌∙◌}
-use borrow.Author.Rules.{rules}
 use Rattle.entries.specs.Part.{part_of}
 use Rattle.window.proofs.Length.{allowed-fact, sized_on, sized-off}
 use Rattle.entries.proofs.entry_part.Goals as goal

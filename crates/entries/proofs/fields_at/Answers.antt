@@ -1,5 +1,4 @@
 use Rattle.entries.proofs.Cases.{fields_read}
-use borrow.Author.Rules.{rules}
 use Rattle.entries.proofs.fields_at.Goals as goal
 
 pub returns : goal.returns

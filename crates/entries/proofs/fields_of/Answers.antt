@@ -1,6 +1,5 @@
 use mathlib.Core.Path.{refl}
 use Rattle.entries.proofs.Cases.{fields_read}
-use borrow.Author.Rules.{rules}
 use Rattle.entries.proofs.fields_of.Goals as goal
 
 pub returns : goal.returns

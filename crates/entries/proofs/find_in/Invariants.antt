@@ -1,12 +1,8 @@
-use mathlib.Core.Path.{◌≡◌, sym, ap, ◌∙◌}
-use mathlib.Core.Bool.{Bool, cond}
+use mathlib.Core.Path.{◌≡◌}
 use Prim.Native.Nat.{◌-◌, ◌≤◌}
-use native.Mathlib.Omega.{arith}
-use borrow.Author.Rules.{rules}
 use Rattle.reply.specs.Scan.{scan}
-use Rattle.reply.proofs.ScanLaws.{scan-start, scan-end, scan-stop, scan-pass}
-use Rattle.entries.specs.Entry.{find_step, find_in, nowhere, found_at}
-use Rattle.entries.proofs.Cases.{told, find-told}
+use Rattle.entries.specs.Entry.{find_step, find_in, nowhere}
+use Rattle.entries.proofs.Cases.{told}
 use Rattle.entries.proofs.find_in.Given as goal
 
 abbrev pub invariant-loop-i : goal.invariant-loop-i

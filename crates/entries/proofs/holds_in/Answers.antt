@@ -1,5 +1,4 @@
 use mathlib.Core.Path.{sym, ap, ◌∙◌}
-use borrow.Author.Rules.{rules}
 use Rattle.entries.specs.Entry.{told_match}
 use Rattle.entries.proofs.Lowest.{held, not-held}
 use Rattle.entries.proofs.holds_in.Goals as goal

@@ -1,13 +1,10 @@
-use mathlib.Core.Path.{◌≡◌, sym, ap, ◌∙◌}
+use mathlib.Core.Path.{sym, ap, ◌∙◌}
 use mathlib.Core.Bool.{Bool, cond}
-use Prim.Native.Nat.{◌-◌, ◌≤◌}
 use native.Mathlib.Omega.{arith}
-use borrow.Author.Rules.{rules}
 use borrow.Author.Tests.{eq-eqb, ne_eqb}
 use Rattle.reply.specs.Reply.{given, refused, alone}
-use Rattle.reply.specs.Scan.{scan}
 use Rattle.reply.proofs.ScanLaws.{scan-start, scan-end, scan-stop, scan-pass}
-use Rattle.entries.specs.Entry.{entry_of, lead_of, lead_step, lead_in}
+use Rattle.entries.specs.Entry.{entry_of, lead_of, lead_step}
 use Rattle.entries.specs.declared.Entry.{Entry}
 use Rattle.entries.proofs.Cases.{told, lead-told}
 use Rattle.entries.proofs.lead_in.Goals as goal

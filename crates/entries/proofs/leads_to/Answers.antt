@@ -1,5 +1,4 @@
 use mathlib.Core.Path.{sym, ◌∙◌}
-use borrow.Author.Rules.{rules}
 use Rattle.entries.specs.Part.{leads_to}
 use Rattle.window.proofs.Length.{allowed-fact, sized_on, sized-off}
 use Rattle.entries.proofs.leads_to.Goals as goal

@@ -3,7 +3,6 @@ use Rattle.reply.specs.Reply.{in_entry, met}
 use Rattle.window.specs.declared.Offset.{Offset}
 use Rattle.entries.specs.Part.{part_of, told_part}
 use Rattle.entries.specs.declared.PartAnswer.{PartAnswer}
-use borrow.Author.Rules.{rules}
 use Rattle.entries.proofs.part_met.Goals as goal
 use Rattle.entries.proofs.part_met.Goals.{After-part_of}
 

@@ -1,9 +1,8 @@
 use borrow.Author.Tests.{eq-eqb, ne_eqb}
-use mathlib.Core.Path.{◌≡◌, ◌∙◌}
+use mathlib.Core.Path.{◌∙◌}
 use Rattle.reply.proofs.ReplyLaws.{then-told}
 use Rattle.window.specs.Window.{told_offset}
 use Rattle.entries.specs.Part.{part_within, part_of}
-use borrow.Author.Rules.{rules}
 use Rattle.entries.proofs.part_of.Goals as goal
 
 pub returns-then-e-kind : goal.returns-then-e-kind

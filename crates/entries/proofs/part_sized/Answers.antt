@@ -1,11 +1,10 @@
-use mathlib.Core.Path.{◌≡◌, sym, ap, ◌∙◌}
+use mathlib.Core.Path.{sym, ap, ◌∙◌}
 use native.Mathlib.Omega.{arith}
 use Rattle.reply.specs.Reply.{in_entry, met}
 use Rattle.reply.proofs.ReplyLaws.{then-told}
 use Rattle.entries.specs.Entry.{told_entry}
 use Rattle.entries.specs.Part.{part_of}
 use Rattle.entries.proofs.Accept.{only-entry}
-use borrow.Author.Rules.{rules}
 use Rattle.entries.proofs.part_sized.Goals as goal
 
 -- an entry that is given stands below the total, a number of 32 bits

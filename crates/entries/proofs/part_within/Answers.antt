@@ -3,7 +3,6 @@ use borrow.Author.Tests.{le-leb, lt-leb}
 use Prim.Native.Nat.{◌+◌}
 use lib.ListN.{length}
 use Rattle.entries.specs.Part.{part_within}
-use borrow.Author.Rules.{rules}
 use Rattle.entries.proofs.part_within.Goals as goal
 
 pub returns-then-image-place : goal.returns-then-image-place

@@ -1,5 +1,4 @@
 use Rattle.entries.proofs.Parts.{lead-cases}
-use borrow.Author.Rules.{rules}
 use Rattle.entries.proofs.place_of.Goals as goal
 
 pub returns-then-e-eq3 : goal.returns-then-e-eq3

@@ -1,13 +1,5 @@
-use mathlib.Core.Path.{◌≡◌, refl, ap, ◌∙◌}
-use Prim.Native.Nat.{ℕ, ◌*◌, ◌-◌, ◌≤◌}
-use native.Mathlib.Omega.{arith}
-use borrow.Author.Rules.{rules}
-use Rattle.le.specs.Le.{Bytes}
-use Rattle.le.proofs.Part.{le-own}
-use Rattle.fletcher.specs.Fletcher.{words_at}
-use Rattle.fletcher.specs.Fold.{sum_after, weighted_after}
-use Rattle.fletcher.proofs.Lanes.{Lanes, lanes_start, lanes-more, room, sum_is, weighted-is, less-most, high_small}
-use Rattle.fletcher.proofs.Run.{run-safe}
+use Prim.Native.Nat.{◌-◌, ◌≤◌}
+use Rattle.fletcher.proofs.Lanes.{Lanes}
 use Rattle.fletcher.proofs.add_fours.Given as goal
 
 abbrev pub invariant-loop-k : goal.invariant-loop-k

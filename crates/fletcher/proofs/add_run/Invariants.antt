@@ -1,12 +1,7 @@
-use mathlib.Core.Path.{◌≡◌, refl, ap, ◌∙◌}
-use Prim.Native.Nat.{ℕ, ◌+◌, ◌*◌, ◌-◌, ◌/◌, ◌%◌, ◌^◌, ◌<◌, ◌≤◌}
-use native.Mathlib.Omega.{arith}
-use borrow.Author.Rules.{rules}
-use Rattle.le.specs.Le.{le_at, Bytes}
-use Rattle.le.proofs.Part.{le-own}
+use mathlib.Core.Path.{◌≡◌}
+use Prim.Native.Nat.{◌*◌, ◌-◌, ◌≤◌}
 use Rattle.fletcher.specs.Fletcher.{words_at}
 use Rattle.fletcher.specs.Fold.{sum_after, weighted_after}
-use Rattle.fletcher.proofs.Run.{sum_step, weighted-step, sum-parts, weighted-parts, rest-safe, sum-folds, weighted-folds}
 use Rattle.fletcher.proofs.add_run.Given as goal
 
 abbrev pub invariant-loop-k : goal.invariant-loop-k

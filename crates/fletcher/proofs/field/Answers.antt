@@ -1,5 +1,4 @@
 use native.Mathlib.Omega.{arith}
-use borrow.Author.Rules.{rules}
 use Rattle.fletcher.proofs.Laws.{written_small}
 use Rattle.fletcher.proofs.field.Goals as goal
 

@@ -1,11 +1,6 @@
-use mathlib.Core.Path.{◌≡◌}
 use Prim.Native.Nat.{◌-◌, ◌/◌, ◌≤◌}
-use native.Mathlib.Omega.{arith}
-use borrow.Author.Rules.{rules}
 use lib.ListN.{length}
-use Rattle.fletcher.specs.Fletcher.{words_at, sum_of, weighted_of, fletcher_of}
 use Rattle.fletcher.specs.Run.{Folded}
-use Rattle.fletcher.proofs.Join.{field-folded}
 use Rattle.fletcher.proofs.fletcher.Given as goal
 
 abbrev pub invariant-loop-i : goal.invariant-loop-i

@@ -1,7 +1,6 @@
 use Prim.Native.Nat.{ℕ, ◌+◌, ◌*◌, ◌%◌, ◌≤◌}
 use native.Mathlib.Nat.{mul-le-mul}
 use native.Mathlib.Omega.{arith}
-use borrow.Author.Rules.{rules}
 use Rattle.fletcher.specs.Join.{sum_in, weighted_in, joined_of}
 use Rattle.fletcher.proofs.Join.{field-folded}
 use Rattle.fletcher.proofs.joined.Goals as goal

@@ -1,5 +1,4 @@
 use Prim.Native.Nat.{◌+◌}
-use borrow.Author.Rules.{rules}
 use Rattle.fletcher.specs.Join.{sum_in, weighted_in, raised_of}
 use Rattle.fletcher.proofs.Join.{field-folded}
 use Rattle.fletcher.proofs.raised.Goals as goal

@@ -1,13 +1,11 @@
 use borrow.Author.Rules.{rules}
-use Prim.Native.Nat.{◌≤◌, ◌-◌}
 use native.Mathlib.Omega.{arith}
-use mathlib.Core.Path.{◌≡◌, refl}
-use lib.ListN.{length}
-use Rattle.lent.proofs.Laws.{number-12, words-12, number_fits, copy_step, copy-end, copied}
+use mathlib.Core.Path.{refl}
+use Rattle.lent.proofs.Laws.{number-12, words-12, number_fits, copy_step, copy-end}
 use Rattle.lent.proofs.put.Goals as goal
 
 pub returns-then-words-values : goal.returns-then-words-values
-returns-then-words-values c =  record { value = search number-12; words_after = search words-12 }
+returns-then-words-values c = record { value = search number-12; words_after = search words-12 }
 
 pub loop-i-init : goal.loop-i-init
 loop-i-init c = (omega arith, omega arith, refl, refl)
@@ -19,4 +17,4 @@ pub loop-i-preserved : goal.loop-i-preserved
 loop-i-preserved c = (omega arith, omega arith, search rules, search (rules, copy_step))
 
 pub returns : goal.returns
-returns c =  record { value = search (rules, number_fits); words_after = search (rules, copy-end) }
+returns c = record { value = search (rules, number_fits); words_after = search (rules, copy-end) }

@@ -1,9 +1,7 @@
-use borrow.Author.Rules.{rules}
 use Prim.Native.Nat.{◌≤◌, ◌-◌}
-use native.Mathlib.Omega.{arith}
-use mathlib.Core.Path.{◌≡◌, refl}
+use mathlib.Core.Path.{◌≡◌}
 use lib.ListN.{length}
-use Rattle.lent.proofs.Laws.{number-12, words-12, number_fits, copy_step, copy-end, copied}
+use Rattle.lent.proofs.Laws.{copied}
 use Rattle.lent.proofs.put.Given as goal
 
 abbrev pub invariant-loop-i : goal.invariant-loop-i

@@ -1,7 +1,6 @@
 use mathlib.Core.List.{[]}
 use native.Mathlib.Omega.{arith}
 use Rattle.lent.proofs.Laws.{number_fits, words-fits}
-use borrow.Author.Rules.{rules}
 use Rattle.lent.proofs.put_fault.Goals as goal
 
 pub returns-in-Alone : goal.returns-in-Alone

@@ -1,8 +1,6 @@
 use mathlib.Core.Path.{ap}
 use Prim.Native.Nat.{ℕ, ◌%◌}
-use native.Mathlib.Omega.{arith}
 use Rattle.marks.specs.Marks.{bit_of}
-use borrow.Author.Rules.{rules}
 use Rattle.marks.proofs.marked.Goals as goal
 
 pub returns : goal.returns

@@ -1,10 +1,9 @@
-use mathlib.Core.Path.{◌≡◌, ap, ap₂, ◌∙◌}
-use Prim.Native.Nat.{ℕ, ◌%◌, ◌^◌}
+use mathlib.Core.Path.{ap, ap₂, ◌∙◌}
+use Prim.Native.Nat.{◌%◌}
 use native.Mathlib.Omega.{arith}
 use lib.Bits.{bit_or}
 use Rattle.marks.specs.Marks.{kept_as}
 use Rattle.marks.proofs.Bits.{one_shifted}
-use borrow.Author.Rules.{rules}
 use Rattle.marks.proofs.with_mark.Goals as goal
 
 pub returns : goal.returns

@@ -1,5 +1,4 @@
 use Rattle.firmware.proofs.Laws.{answers-word}
-use borrow.Author.Rules.{rules}
 use Rattle.firmware.proofs.Firmware.answers.Goals as goal
 
 pub returns : goal.returns

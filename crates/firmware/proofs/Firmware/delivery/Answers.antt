@@ -1,5 +1,4 @@
 use Rattle.firmware.proofs.Laws.{delivery-cases}
-use borrow.Author.Rules.{rules}
 use Rattle.firmware.proofs.Firmware.delivery.Goals as goal
 
 pub returns-then-self : goal.returns-then-self

@@ -1,5 +1,4 @@
 use Rattle.firmware.proofs.Laws.{run-cases}
-use borrow.Author.Rules.{rules}
 use Rattle.firmware.proofs.Firmware.run.Goals as goal
 
 pub returns-in-128 : goal.returns-in-128

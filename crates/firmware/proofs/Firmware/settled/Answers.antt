@@ -1,5 +1,4 @@
 use Rattle.firmware.proofs.Laws.{settled-cases}
-use borrow.Author.Rules.{rules}
 use Rattle.firmware.proofs.Firmware.settled.Goals as goal
 
 pub returns-in-Absent : goal.returns-in-Absent

@@ -1,5 +1,3 @@
-use borrow.Author.Rules.{rules}
-use native.Mathlib.Omega.{arith}
 use Rattle.window.proofs.Cases.{below, above, shown}
 use Rattle.window.proofs.Physical.offset.Goals as goal
 
