@@ -21,7 +21,7 @@ pub struct View<'a> {
 
 // A view of the directory of a level. Where refused it holds no bytes and place 0, and `flash::directory` gives the number.
 pub fn view_of<'a>(image: &'a [u8], level: u32) -> View<'a>
-    ensures { (result.image.now ≡ view_holds level image.now) × (result.image.ptr ≡ image.entry.ref_ptr) × (result.place ≡ view_keeps level image.now) }
+    ensures { (result.image.now ≡ view_holds level image.now) × (result.image.ref_ptr ≡ image.entry.ref_ptr) × (result.place ≡ view_keeps level image.now) }
 {
     View {
         image: place::held(image, level),
@@ -59,7 +59,7 @@ pub fn view_part<'a>(v: View<'a>, i: usize) -> PartAnswer
 
 // The bytes of entry i: that part of the caller's image. Where refused there are none, and `view_part` gives the number.
 pub fn view_bytes<'a>(v: View<'a>, i: usize) -> &'a [u8]
-    ensures { (result.now ≡ bytes_of v.entry.image.now (view_part v.entry.image.now v.entry.place i)) × (result.ref_ptr ≡ begin_of v.entry.image.ptr (view_part v.entry.image.now v.entry.place i)) }
+    ensures { (result.now ≡ bytes_of v.entry.image.now (view_part v.entry.image.now v.entry.place i)) × (result.ref_ptr ≡ begin_of v.entry.image.ref_ptr (view_part v.entry.image.now v.entry.place i)) }
 {
     place::bytes_at(v.image, v.place, i)
 }
