@@ -1,0 +1,16 @@
+use mathlib.Core.Path.{refl, ap, ◌∙◌}
+use Rattle.all_entries.proofs.Rows.{filled_none, filled_more}
+use borrow.Author.Rules.{rules}
+use mathlib.Core.Path.{◌≡◌}
+use Prim.Native.Nat.{◌≤◌, ◌-◌}
+use native.Mathlib.Omega.{arith}
+use lib.ListN.{length}
+use Rattle.efs.specs.Rules.{rules_of}
+use Rattle.all_entries.proofs.Rows.{filled}
+use Rattle.all_entries.proofs.put_rows.Given as goal
+
+abbrev pub invariant-loop-i : goal.invariant-loop-i
+invariant-loop-i l = (l.i ≤ l.n) × (length l.words ≡ length l.initial.words) × (l.words ≡ filled (rules_of l.image) l.image l.d l.initial.words l.i)
+
+abbrev pub decreases-loop-i : goal.decreases-loop-i
+decreases-loop-i l = l.n - l.i
