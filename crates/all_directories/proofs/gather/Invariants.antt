@@ -1,0 +1,14 @@
+use borrow.Author.Rules.{rules}
+use native.Mathlib.Omega.{arith}
+use mathlib.Core.Path.{◌≡◌, sym, ap, ◌∙◌}
+use Prim.Native.Nat.{◌-◌, ◌+◌, ◌≤◌}
+use lib.ListN.{length}
+use Rattle.all_directories.specs.Gathered.{told_gathered, words_of}
+use Rattle.all_directories.proofs.Reached.{Reached, reached-start, reached-more, reached-fault, reached-end}
+use Rattle.all_directories.proofs.gather.Given as goal
+
+abbrev pub invariant-loop-i : goal.invariant-loop-i
+invariant-loop-i l = (length l.rows ≡ length l.initial.rows) × Reached l.rules l.image l.d l.n l.count l.i l.rows
+
+abbrev pub decreases-loop-i : goal.decreases-loop-i
+decreases-loop-i l = l.n - l.i
