@@ -11,23 +11,28 @@ trap 'rm -rf "$root"' EXIT
 # A repository of this form: a library, a program that shows a line, and a host with a test.
 write_repository() {
     mkdir -p "$root/crates/kpalumere/src" "$root/crates/shown/src" "$root/host/src"
-    printf '%s\n' 'kpalumere:' 'shown: io libc' >"$root/crates.txt"
+    printf '%s\n' 'kpalumere staticlib:' 'shown:' >"$root/crates.txt"
     cat >"$root/crates/kpalumere/src/lib.rt" <<'END'
 // A library with one exported call.
-ghost use mathlib.Core.Path.{_≡_};
+#![tactic(auto)]
 
-#[no_mangle]
+ghost use Rattle.std.specs.Prelude.{◌≡◌};
+
+#[unsafe(no_mangle)]
 pub extern "C" fn kpalumere_seven() -> u64
-    ensures { λ r. ⌜ r ≡ 7 ⌝ }
+    ensures { result ≡ 7 }
 {
     7
 }
 END
     cat >"$root/crates/shown/src/main.rt" <<'END'
 // A program that writes a line.
-fn main() {
-    let line = [b'7', b'\n'];
-    io::write_all(1, &line);
+#![tactic(auto)]
+
+use std::io;
+
+fn main(rt: HostRuntime) -> io::Result<()> {
+    println!(rt; "7")
 }
 END
     echo 7 >"$root/crates/shown/stdout"
@@ -83,16 +88,17 @@ put() { # FILE OLD NEW
 
 write_repository
 take_through_steps
-expect 'a good repository passes' ended_with 8 0
+expect 'a good repository passes' ended_with 7 0
 
 # Edits, without the proofs that they would wait for.
-edits_are_tried() (
+in_steps() ( # COMMAND...
     # shellcheck source=host/setup.sh
     . "$own/setup.sh"
     # shellcheck source=host/steps.sh
     . "$own/steps.sh"
-    edits_fit
+    "$@"
 )
+edits_are_tried() { in_steps edits_fit; }
 stray_edit_is_named() { ! edits_are_tried >"$root/said" && grep -qF 'crates/kpalumere/must-fail/eight.edit does not fit: its old text stands 0 times' "$root/said"; }
 mkdir "$root/crates/kpalumere/must-fail"
 printf '%s\n' 'file: src/lib.rt' 'old:     7' 'new:     8' >"$root/crates/kpalumere/must-fail/eight.edit"
@@ -101,26 +107,36 @@ put crates/kpalumere/must-fail/eight.edit 'old:     7' 'old:     9'
 expect 'an edit that does not is named before the proofs' stray_edit_is_named
 rm -r "$root/crates/kpalumere/must-fail" "$root/said"
 
-# What their logs say.
-edits_are_read() (
-    # shellcheck source=host/setup.sh
-    . "$own/setup.sh"
-    # shellcheck source=host/steps.sh
-    . "$own/steps.sh"
-    edits_show_facts
-)
-shape_alone_is_named() { ! edits_are_read >"$root/said" && grep -qF 'the edit kpalumere/eight is refused for its shape alone' "$root/said"; }
-no_log_is_told() { ! edits_are_read >"$root/said" && grep -qF 'no edit was tried' "$root/said"; }
-log=$root/target/must-fail/kpalumere/eight/.log
-rm -rf "$root/target/must-fail"
-expect 'that no edit was tried is told' no_log_is_told
-mkdir -p "${log%/*}"
-printf '%s\n' 'proofs/seven/Proof.antt:9:1: error: `add-t4`: module `Tie` has no `Need-add-t4` that can be named from here' \
-    'proofs/seven/Proof.antt:12:1: error: `seven-spec`: `add-t4` was not admitted' >"$log"
-expect 'an edit that is refused for its shape alone is named' shape_alone_is_named
-echo 'proofs/seven/Proof.antt:15:1: error: `returns`: the two types differ only where one has `7` and the other has `8`' >>"$log"
-expect 'one that is refused for a fact is taken' edits_are_read
-rm -r "$root/target/must-fail" "$root/said"
+# What the log of the proofs says of them.
+edits_are_read() { in_steps edits_show_facts; }
+are_named() { ! edits_are_read >"$root/said" && grep -qF -- "$1" "$root/said"; } # WORDS
+log=$root/host/target/log/proofs.log
+mkdir -p "${log%/*}" "$root/crates/kpalumere/must-fail"
+touch "$root/crates/kpalumere/must-fail/eight.edit" "$root/crates/kpalumere/must-fail/nine.edit"
+echo 'rt: kpalumere proved' >"$log"
+expect 'that no edit was tried is told' are_named 'no edit was tried'
+echo 'rt: must-fail kpalumere/eight.edit: refused, as it must be: note: src/lib.rt:6:1: it is not proved that what the function ensures holds' >>"$log"
+expect 'that not every edit was tried is told' are_named 'there are 2 edits, and host/target/log/proofs.log tells of 1'
+rm "$root/crates/kpalumere/must-fail/nine.edit"
+expect 'an edit that is refused for a fact is taken' edits_are_read
+echo 'rt: must-fail kpalumere/eight.edit: refused, as it must be (only because a proof file names what the edit took away, so this says little of the contract: change a value and keep the names): proofs/seven/Answers.antt:9:1: error: `add-t4`: module `Goals` has no `add-t4` that can be named from here' >"$log"
+expect 'one that is refused for its shape alone is named' are_named 'the edit kpalumere/eight.edit is refused for its shape alone'
+echo 'rt: must-fail kpalumere/eight.edit: BAD EDIT: it did not reach the prover; the first lines of what it said:' >"$log"
+expect 'one that does not compile is named' are_named 'the edit kpalumere/eight.edit is not refused because of a fact'
+
+# The line with which rt ci passes.
+line_passes() { in_steps no_edit_is_bad "$root/said"; }
+bad_is_told() { ! line_passes >"$root/told" && grep -qF 'an edit that is bad shows nothing' "$root/told" && [ "$(tail -n 1 "$root/told")" = '3 passed, 0 failed' ]; }
+printf '%s\n' 'rt: ok; handles allowed: none; must-fail edits: 12 refused; every proof and must-fail edit was done in this run' '3 passed, 0 failed' >"$root/said"
+expect 'a line with no bad edit passes' line_passes
+printf '%s\n' 'rt: ok; handles allowed: none; must-fail edits: 11 refused, 1 bad; every proof and must-fail edit was done in this run' '3 passed, 0 failed' >"$root/said"
+expect 'a line with a bad edit does not' bad_is_told
+printf '%s\n' '3 passed, 0 failed' >"$root/said"
+expect 'no line at all does not' bad_is_told
+printf '%s\n' 'file: src/lib.rt' 'old:     7' 'new:     seven' >"$root/crates/kpalumere/must-fail/eight.edit"
+bad_edit_fails() { ! in_steps prove_everything >"$root/told" 2>&1 && grep -q '^rt: ok.*, 1 bad' "$root/told" && grep -qF 'an edit that is bad shows nothing' "$root/told"; }
+expect 'an edit that does not compile fails the proofs' bad_edit_fails
+rm -r "$root/crates/kpalumere/must-fail" "$root/said" "$root/told" "$log"
 
 # A directory whose fields any crate may fill.
 by_hand_is_tried() (
@@ -132,10 +148,12 @@ by_hand_is_tried() (
     directory_by_hand_refused
 )
 open_field_is_named() { ! by_hand_is_tried >"$root/said" && grep -qF 'may fill the field total of a directory by hand' "$root/said"; }
-mkdir -p "$root/filled/crates/directory/src" "$root/filled/crates/window/src" "$root/filled/target/rlib" "$root/filled/target/stamp"
+mkdir -p "$root/filled/crates/directory/src" "$root/filled/crates/window/src"
 printf '%s\n' 'window:' 'directory: window' >"$root/filled/crates.txt"
-echo 'pub struct Offset(pub u32);' >"$root/filled/crates/window/src/lib.rt"
+printf '%s\n' '#![tactic(auto)]' '' 'pub struct Offset(pub u32);' >"$root/filled/crates/window/src/lib.rt"
 cat >"$root/filled/crates/directory/src/lib.rt" <<'END'
+#![tactic(auto)]
+
 use window::Offset;
 
 pub struct Directory {
@@ -153,29 +171,30 @@ rm -r "$root/filled" "$root/said"
 echo '// A file that no crate has.' >"$root/crates/lost.rt"
 put host/src/lib.rs 'seven, 7' 'seven, 8'
 take_through_steps
-expect 'an unlisted file of Rattle and a failing host test are two failures' ended_with 7 2
-expect 'the unlisted file fails the proofs' counted proofs 2 1
+expect 'an unlisted file of Rattle and a failing host test are two failures' ended_with 4 2
+expect 'the unlisted file fails the proofs' counted proofs 0 1
 expect 'the failing test fails the host tests' counted 'host tests' 0 1
 rm "$root/crates/lost.rt"
 put host/src/lib.rs 'seven, 8' 'seven, 7'
 
 put crates/kpalumere/src/lib.rt '^    7' '    8'
+put crates/shown/src/main.rt '    println' 'println'
 put host/src/lib.rs 'let seven = 7' 'let seven=7'
 take_through_steps
-expect 'an unproved function and a Rust file out of layout are three failures' ended_with 5 3
-expect 'the unproved function fails the proofs' counted proofs 1 1
+expect 'an unproved function and files out of layout, of Rattle and of Rust, are four failures' ended_with 3 4
+expect 'the unproved function and the Rattle file out of layout fail the proofs' counted proofs 0 2
+expect 'the Rattle file out of layout is named' grep -qF 'src/main.rt is not in the layout' <<<"$printed"
 expect 'the unproved function fails the library' counted library 0 1
-expect 'the file out of layout fails its step' counted 'layout of the Rust files' 0 1
+expect 'the Rust file out of layout fails its step' counted 'layout of the Rust files' 0 1
 put crates/kpalumere/src/lib.rt '^    8' '    7'
+put crates/shown/src/main.rt 'println' '    println'
+put host/src/lib.rs 'let seven=7' 'let seven = 7'
 
 put crates/shown/stdout 7 8
-put crates/shown/src/main.rt '    io' 'io'
-put host/src/lib.rs 'let seven=7' 'let seven = 7'
 echo 'fn unused() {}' >>"$root/host/src/lib.rs"
 take_through_steps
-expect 'a wrong stdout, a Rattle file out of layout and a warning are four failures' ended_with 4 4
-expect 'the wrong stdout fails the proofs' counted proofs 1 1
-expect 'the file out of layout fails its step' counted 'layout of the Rattle files' 0 1
+expect 'a wrong stdout and a warning are three failures' ended_with 5 3
+expect 'the wrong stdout fails the proofs' counted proofs 2 1
 expect 'the warning fails the host build' counted 'host build' 0 1
 expect 'tests that cannot be built are a failure' counted 'host tests' 0 1
 

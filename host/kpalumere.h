@@ -1,5 +1,5 @@
-/* The proved library for callers in C: host/kpalumere.h, for target/staticlib/libkpalumere.a, which `rt staticlib kpalumere`
- * writes and which links into programs for x86-64 Linux.
+/* The proved library for callers in C: host/kpalumere.h, for target/staticlib/libkpalumere.a, a copy of what `rt lib` writes
+ * in crates/kpalumere, which links into programs for x86-64 Linux.
  *
  * Every call has one shape. Lent slices and numbers go in; each slice is a pointer and a length, which counts elements.
  * The number of document 01 comes out: 0 where the call is accepted, else the number of the refusal. What an accepted call

@@ -132,21 +132,9 @@ require_rt() {
     return 1
 }
 
-# How many proofs run at a time: each takes a thread and up to 1 GB, and many small ones gain little beyond eight.
-choose_proof_jobs() {
-    [ -z "${RT_JOBS:-}" ] || return 0
-    local jobs memory
-    jobs=$(nproc 2>/dev/null || echo 1)
-    memory=$(awk '/^MemAvailable:/ { print int($2 / 1048576) }' /proc/meminfo 2>/dev/null)
-    if [ -n "$memory" ] && [ "$memory" -lt "$jobs" ]; then jobs=$memory; fi
-    if [ "$jobs" -gt 8 ]; then jobs=8; fi
-    if [ "$jobs" -lt 1 ]; then jobs=1; fi
-    export RT_JOBS=$jobs
-}
-
 # ---- the lock
 
-# One build at a time in this folder: proofs and builds share target/ and host/target/.
+# One build at a time in this folder: proofs and builds share the crates' out/, target/ and host/target/.
 lock_builds() {
     local lock=$root/host/target/lock
     if ! { mkdir -p "$root/host/target" && : >>"$lock"; }; then
@@ -163,34 +151,19 @@ unlock_builds() { exec 9>&-; }
 
 # ---- the library and the tool
 
-# A number that changes with what any of the files holds.
+# A number that changes with what any of the files holds, but for what rt makes.
 sources_of() { # FILE-OR-FOLDER...
-    (cd "$root" && find "$@" -type f -print0 | LC_ALL=C sort -z | xargs -0 sha256sum) | sha256sum | cut -d' ' -f1
+    (cd "$root" && find "$@" -path 'crates/*/out' -prune -o -type f -print0 | LC_ALL=C sort -z | xargs -0 sha256sum) | sha256sum | cut -d' ' -f1
 }
 
-# Prints the crates of the repository that the library stands on, straight.
-crates_below_library() {
-    local name
-    awk '{ sub(/#.*/, ""); at = index($0, ":"); name = substr($0, 1, at - 1); gsub(/[ \t]/, "", name) }
-        name == "kpalumere" { count = split(substr($0, at + 1), below, " "); for (k = 1; k <= count; k++) print below[k] }' "$root/crates.txt" |
-        while read -r name; do
-            # The others are the kit's.
-            [ ! -d "$root/crates/$name" ] || echo "$name"
-        done
-}
-
-# Proves the library and writes the archive, whatever stands there.
+# Proves the library and writes the archive, whatever stands there. rt writes it to the crate's out/; callers find it in target/staticlib/.
 make_library() {
-    local archive=$root/target/staticlib/libkpalumere.a sources below
+    local archive=$root/target/staticlib/libkpalumere.a sources
     require_rt || return
-    choose_proof_jobs
     sources=$(sources_of crates crates.txt)
     rm -f "$archive" "$archive.sources"
-    # `rt staticlib` proves what the library stands on one by one, `rt check` several at a time.
-    below=$(crates_below_library)
-    # shellcheck disable=SC2086
-    if [ -n "$below" ]; then (cd "$root" && rt check $below) || return; fi
-    (cd "$root" && rt staticlib kpalumere) || return
+    (cd "$root/crates/kpalumere" && rt lib) || return
+    mkdir -p "${archive%/*}" && cp "$root/crates/kpalumere/out/libkpalumere.a" "$archive" || return
     printf '%s\n' "$sources" >"$archive.sources"
 }
 
@@ -215,7 +188,7 @@ tool_is_current() {
 bring_library() { # LOG
     if library_is_current; then return; fi
     say "proving and building the library: some minutes the first time, then only what changed"
-    make_library 2>&1 | tee "$1" | grep --line-buffered -E '^rt: .*(proved \([0-9]|NOT PROVED|FAILED)|: there is no rt' >&2
+    make_library 2>&1 | tee "$1" | grep --line-buffered -E '^rt: |: (no proof|not proved)|: error|: there is no rt' >&2
     [ "${PIPESTATUS[0]}" -eq 0 ] || { say "the library is not proved or not built; all that was said is in $1"; return 1; }
 }
 

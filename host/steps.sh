@@ -3,7 +3,6 @@
 # It is sourced after setup.sh, by a script that has set `root` to the folder of the repository to be tested.
 
 passed=0 failed=0 failed_steps=''
-# Not under target/, which `rt ci` removes.
 logs=$root/host/target/log
 
 # Runs a command as a step. COUNTER sets `step_passed` and `step_failed` from the command's status and log.
@@ -92,37 +91,45 @@ edits_fit() {
     [ "$lost" -eq 0 ]
 }
 
-# Each must-fail edit was refused because a fact does not hold. One whose log has no other error than that the proof no longer fits the code,
-# or that a name is not there, says nothing of what the changed program does.
+# Each must-fail edit was refused because a fact does not hold. One that is refused only because a proof no longer fits the code, or because
+# a name is not there, says nothing of what the changed program does: `rt ci` says so on the edit's line, which is in the log of the proofs.
 edits_show_facts() {
-    local log edit tried=0 lost=0
-    for log in "$root"/target/must-fail/*/*/.log; do
-        [ -e "$log" ] || continue
+    local log=$logs/proofs.log line edit tried=0 lost=0 there
+    there=$(find "$root"/crates/*/must-fail -name '*.edit' 2>/dev/null | wc -l)
+    while IFS= read -r line; do
         tried=$((tried + 1))
-        edit=${log#"$root/target/must-fail/"}
-        edit=${edit%/.log}
-        if ! grep -aE ': error|does not close' "$log" | grep -avE 'was not admitted|can be named from here|has no field|is not in scope: add' | grep -q .; then
-            printf 'the edit %s is refused for its shape alone: %s has no error that is of a fact. Exchange an operand, and keep the operations.\n' "$edit" "${log#"$root/"}"
+        edit=${line#rt: must-fail }
+        edit=${edit%%:*}
+        case $line in
+        *'only because a proof file names what the edit took away'*)
+            printf 'the edit %s is refused for its shape alone. Exchange an operand, and keep the names.\n' "$edit"
             lost=1
-        fi
-    done
-    [ "$tried" -gt 0 ] || { echo 'no edit was tried: target/must-fail has no log'; return 1; }
+            ;;
+        *': refused, as it must be: '* | *': refused, as it must be (only by a limit of the prover'*) ;;
+        *)
+            printf 'the edit %s is not refused because of a fact: %s\n' "$edit" "${line#*: *: }"
+            lost=1
+            ;;
+        esac
+    done < <(grep -aE '^rt: must-fail [^ ]+: ' "$log" 2>/dev/null)
+    [ "$tried" -gt 0 ] || { echo "no edit was tried: ${log#"$root/"} has none"; return 1; }
+    [ "$tried" -eq "$there" ] || { echo "there are $there edits, and ${log#"$root/"} tells of $tried"; return 1; }
     [ "$lost" -eq 0 ] && echo "$tried edits were refused, each because a fact does not hold"
 }
 
 # A crate that fills the fields of a directory by hand is refused by the language, so that only a check gives one (F7).
-# No edit can show it, since an edit must reach the prover. The proved crates are lent by links, and are not proved again.
+# No edit can show it, since an edit must reach the prover. It is tried in a copy of the crates, whose proofs it does not come to.
 directory_by_hand_refused() {
     require_rt || return
     local scratch said field
     scratch=$(mktemp -d) || return
-    mkdir -p "$scratch/crates/by_hand/src" "$scratch/target/rlib"
-    ln -s "$root"/crates/* "$scratch/crates/"
-    ln -s "$root"/target/rlib/* "$scratch/target/rlib/"
-    cp -r "$root/target/stamp" "$scratch/target/"
+    (cd "$root" && find crates -path 'crates/*/out' -prune -o -type f -print0 | xargs -0 cp --parents -t "$scratch") || return
+    mkdir -p "$scratch/crates/by_hand/src"
     { cat "$root/crates.txt"; echo 'by_hand: directory window'; } >"$scratch/crates.txt"
     cat >"$scratch/crates/by_hand/src/lib.rt" <<'END'
 // A directory of thirteen entries that no check gave.
+#![tactic(auto)]
+
 use directory::Directory;
 use window::Offset;
 
@@ -134,7 +141,7 @@ pub fn made_by_hand() -> Directory {
     }
 }
 END
-    said=$(cd "$scratch" && rt check by_hand 2>&1)
+    said=$(cd "$scratch/crates/by_hand" && rt check 2>&1)
     rm -rf "$scratch"
     for field in place level total; do
         if ! grep -qF "field \`$field\` of struct \`Directory\` is private" <<<"$said"; then
@@ -146,16 +153,22 @@ END
     echo 'a directory made by hand is refused: its place, its level and its total are private'
 }
 
+# All proofs, edits and programs, by the gate of the kit, which also refuses a file of crates/ that is not laid out as rt fmt does it.
 prove_everything() {
+    local said=$logs/rt-ci.log
     require_rt || return
     edits_fit || return
-    choose_proof_jobs
-    cd "$root" && rt ci
+    (cd "$root" && rt ci) 2>&1 | tee "$said"
+    [ "${PIPESTATUS[0]}" -eq 0 ] && no_edit_is_bad "$said"
 }
 
-check_rattle_layout() {
-    require_rt || return
-    cd "$root" && rt fmt --check && echo "every file of crates/ is laid out as rt fmt does it"
+# rt ci passes where an edit cannot be applied, compiled or read, and counts it on its line `rt: ok`. Here it fails, and the last line is told again.
+no_edit_is_bad() { # LOG
+    local ok
+    ok=$(grep -a '^rt: ok' "$1") && ! grep -qE ', [0-9]+ bad' <<<"$ok" && return
+    echo 'an edit that is bad shows nothing: mend those that are told above as a BAD EDIT'
+    tail -n 1 "$1"
+    return 1
 }
 
 check_rust_layout() {
@@ -174,7 +187,6 @@ run_strict_cargo() { # VERB WORDS...
 # The steps that any repository of this form has.
 common_steps() {
     step 'what the machine must have' count_one prepare_machine
-    step 'layout of the Rattle files' count_one check_rattle_layout
     step 'layout of the Rust files' count_one check_rust_layout
     step 'proofs' count_last_line prove_everything
     step 'library' count_one make_library

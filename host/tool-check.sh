@@ -77,15 +77,15 @@ expect 'it may be started through a link' grep -qE '^kpalumere [0-9]+\.[0-9]+\.[
 expect 'a reader that closes the pipe is no fault' test "${PIPESTATUS[0]}" -ne 4
 
 # A repository of which nothing is built, where the library cannot be proved.
-mkdir -p broken/host/bindings broken/host/tool/src broken/crates fake
+mkdir -p broken/host/bindings broken/host/tool/src broken/crates/kpalumere fake
 cp "$script" broken/
 cp "$own/setup.sh" "$own/Cargo.toml" broken/host/
 cp "$own/tool/Cargo.toml" broken/host/tool/
-echo 'kpalumere:' >broken/crates.txt
-printf '#!/bin/sh\necho "rt: kpalumere NOT PROVED"\nexit 1\n' >fake/rt
+echo 'kpalumere staticlib:' >broken/crates.txt
+printf '#!/bin/sh\necho "fn kpalumere::seven: not proved"\nexit 1\n' >fake/rt
 chmod +x fake/rt
 script=broken/kpalumere PATH=$room/fake:$PATH start --version
 expect 'where the library is not proved nothing is run, and the status is 4' gave 4 ''
-expect 'what failed is said' says 'kpalumere NOT PROVED'
+expect 'what failed is said' says 'kpalumere::seven: not proved'
 
 expected

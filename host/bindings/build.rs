@@ -1,4 +1,4 @@
-//! Links the proved library, the archive that `rt staticlib kpalumere` writes at the repository's root.
+//! Links the proved library, the archive that `rt lib` writes in crates/kpalumere, and ./kpalumere and ./test copy to target/staticlib/.
 
 use std::path::Path;
 
@@ -13,8 +13,8 @@ fn main() {
     println!("cargo:rerun-if-changed={}", archive.display());
     if !archive.is_file() {
         eprintln!(
-            "The proved library is not built: there is no {}. Run `rt staticlib kpalumere` in {}, \
-             or `./kpalumere --help` there, which builds all that is missing.",
+            "The proved library is not built: there is no {}. Run `./kpalumere --help` in {}, \
+             which builds all that is missing.",
             archive.display(),
             root.display()
         );

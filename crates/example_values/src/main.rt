@@ -6,71 +6,70 @@ use build::Fields;
 use entries::PartAnswer;
 use firmware::Firmware;
 use guids::Guid;
-use libc::STDOUT_FILENO;
 use reply::{Fault, Met, Refusal};
+use std::io;
 use window::Offset;
 
-fn show(text: &[u8]) {
-    io::write_all(STDOUT_FILENO, text);
+fn show(rt: &impl Print, text: &str) -> io::Result<()> {
+    print!(rt; "{text}")
 }
 
-fn show_decimal(name: &[u8], number: u64) {
-    show(name);
-    io::print_decimal(STDOUT_FILENO, number);
+fn show_decimal(rt: &impl Print, name: &str, number: u64) -> io::Result<()> {
+    print!(rt; "{name}{number}")
 }
 
-fn show_refusal(why: Refusal) {
-    show_decimal(b"refused ", why.number as u64);
-    show(b"\n");
+fn show_refusal(rt: &impl Print, why: Refusal) -> io::Result<()> {
+    show_decimal(rt, "refused ", why.number as u64)?;
+    show(rt, "\n")
 }
 
 // A refusal of a directory, and where it was met: the level of a header, or the level and index of an entry.
-fn show_fault(why: Fault) {
-    show_decimal(b"refused ", why.number as u64);
+fn show_fault(rt: &impl Print, why: Fault) -> io::Result<()> {
+    show_decimal(rt, "refused ", why.number as u64)?;
     let place = why.met;
     match place {
         Met::Alone => {}
         Met::Header {
             level,
             directory: _,
-        } => show_decimal(b" level=", level as u64),
+        } => show_decimal(rt, " level=", level as u64)?,
         Met::Entry {
             level,
             index,
             directory: _,
         } => {
-            show_decimal(b" level=", level as u64);
-            show_decimal(b" index=", index as u64);
+            show_decimal(rt, " level=", level as u64)?;
+            show_decimal(rt, " index=", index as u64)?;
         }
     }
-    show(b"\n");
+    show(rt, "\n")
 }
 
-fn show_total(total: u32) {
-    show_decimal(b"ok total=", total as u64);
-    show(b"\n");
+fn show_total(rt: &impl Print, total: u32) -> io::Result<()> {
+    show_decimal(rt, "ok total=", total as u64)?;
+    show(rt, "\n")
 }
 
-fn show_guid_total(answer: guids::LengthAnswer) {
+fn show_guid_total(rt: &impl Print, answer: guids::LengthAnswer) -> io::Result<()> {
     match answer {
-        guids::LengthAnswer::Given(total) => show_total(total),
-        guids::LengthAnswer::Refused(why) => show_refusal(why),
+        guids::LengthAnswer::Given(total) => show_total(rt, total),
+        guids::LengthAnswer::Refused(why) => show_refusal(rt, why),
     }
 }
 
-fn show_guids(image: &[u8]) {
+fn show_guids(rt: &impl Print, image: &[u8]) -> io::Result<()> {
     match guids::table(image) {
         guids::TotalsAnswer::Given(t) => {
-            show_decimal(b"ok total=", t.total as u64);
-            show_decimal(b" entries=", t.entries as u64);
-            show(b"\n");
+            show_decimal(rt, "ok total=", t.total as u64)?;
+            show_decimal(rt, " entries=", t.entries as u64)?;
+            show(rt, "\n")
         }
-        guids::TotalsAnswer::Refused(why) => show_refusal(why),
+        guids::TotalsAnswer::Refused(why) => show_refusal(rt, why),
     }
 }
 
 // Source 004's three entries: T = 0x5c is accepted, and T = 0x72, with zeros before them, is 6.
-fn three_entries() {
+fn three_entries(rt: &impl Print) -> io::Result<()> {
     let mut image = [0u8; 192];
     let short = [0x04u8, 0xB0, 0x80, 0x00];
     let long = [0x00u8, 0xCC, 0x80, 0x00, 0x00, 0x0C, 0x00, 0x00];
@@ -86,19 +85,19 @@ fn three_entries() {
         low: 0x4B04_3A3B_7255_371F,
         high: 0x54D4_A8EF_A61D_7B92,
     };
-    show_guid_total(guids_build::start(&mut image));
-    show_guid_total(guids_build::extend(&mut image, reset, &short));
-    show_guid_total(guids_build::extend(&mut image, secret, &long));
-    show_guid_total(guids_build::extend(&mut image, hashes, &long));
-    show_guids(&image);
+    show_guid_total(rt, guids_build::start(&mut image))?;
+    show_guid_total(rt, guids_build::extend(&mut image, reset, &short))?;
+    show_guid_total(rt, guids_build::extend(&mut image, secret, &long))?;
+    show_guid_total(rt, guids_build::extend(&mut image, hashes, &long))?;
+    show_guids(rt, &image)?;
     le::put16(&mut image, 142, 0x72);
-    show_guids(&image);
+    show_guids(rt, &image)
 }
 
-fn show_directory(buf: &[u8]) {
+fn show_directory(rt: &impl Print, buf: &[u8]) -> io::Result<()> {
     match directory::directory_by_cookie(buf, directory::psp_kind(), 512, Offset(0)) {
-        directory::DirectoryAnswer::Given(d) => show_total(d.total()),
-        directory::DirectoryAnswer::Refused(why) => show_fault(why),
+        directory::DirectoryAnswer::Given(d) => show_total(rt, d.total()),
+        directory::DirectoryAnswer::Refused(why) => show_fault(rt, why),
     }
 }
 
@@ -123,31 +122,31 @@ fn number_entries(buf: &mut [u8]) {
 
 // Entries that are all zero repeat one another, which is 18. 512 that are numbered by their types and subprograms are accepted;
 // where the last has those of the first it is 18 again; and 513 are 3.
-fn largest_directory() {
+fn largest_directory(rt: &impl Print) -> io::Result<()> {
     let mut buf = [0u8; 8224];
     le::put32(&mut buf, 0, 0x5053_5024);
     seal(&mut buf, 512);
-    show_directory(&buf);
+    show_directory(rt, &buf)?;
     number_entries(&mut buf);
     seal(&mut buf, 512);
-    show_directory(&buf);
+    show_directory(rt, &buf)?;
     le::put16(&mut buf, 16 + 16 * 511, 0);
     seal(&mut buf, 512);
-    show_directory(&buf);
+    show_directory(rt, &buf)?;
     le::put16(&mut buf, 16 + 16 * 511, 511);
     seal(&mut buf, 513);
-    show_directory(&buf);
+    show_directory(rt, &buf)
 }
 
-fn show_built(answer: build::TotalAnswer) {
+fn show_built(rt: &impl Print, answer: build::TotalAnswer) -> io::Result<()> {
     match answer {
-        build::TotalAnswer::Given(total) => show_total(total),
-        build::TotalAnswer::Refused(why) => show_fault(why),
+        build::TotalAnswer::Given(total) => show_total(rt, total),
+        build::TotalAnswer::Refused(why) => show_fault(rt, why),
     }
 }
 
 // Bytes of an entry, so many from 0x20 on, in an image of 64 bytes whose directory stands at its start.
-fn range_of(size: u32) {
+fn range_of(rt: &impl Print, size: u32) -> io::Result<()> {
     let mut image = [0u8; 64];
     let entry = Fields {
         class: 1,
@@ -156,24 +155,24 @@ fn range_of(size: u32) {
         location: 0x20,
         mode: 1,
     };
-    show_built(build::start(&mut image, 1));
-    show_built(build::extend(&mut image, entry));
+    show_built(rt, build::start(&mut image, 1))?;
+    show_built(rt, build::extend(&mut image, entry))?;
     match place::part_at(&image, Offset(0), 0) {
         PartAnswer::Given(p) => {
             let begin = p.place;
-            show(b"ok place=0x");
-            io::print_hex(STDOUT_FILENO, begin.0 as u64, 1);
-            show_decimal(b" length=", p.length as u64);
-            show(b"\n");
+            let place = begin.0;
+            print!(rt; "ok place=0x{place:x}")?;
+            show_decimal(rt, " length=", p.length as u64)?;
+            show(rt, "\n")
         }
-        PartAnswer::Refused(why) => show_fault(why),
+        PartAnswer::Refused(why) => show_fault(rt, why),
     }
 }
 
-fn show_reading(bytes: &[u8]) {
+fn show_reading(rt: &impl Print, bytes: &[u8]) -> io::Result<()> {
     match aspt::read(bytes) {
-        TableAnswer::Given(_) => show(b"ok\n"),
-        TableAnswer::Refused(why) => show_refusal(why),
+        TableAnswer::Given(_) => show(rt, "ok\n"),
+        TableAnswer::Refused(why) => show_refusal(rt, why),
     }
 }
 
@@ -188,7 +187,7 @@ fn structure(class: u16, id: u8, first: u32, second: u32, third: u32) -> Structu
 }
 
 // The ASPT's checksum is over its 112 bytes: a byte behind them has no part in it, and cannot make up for one of them.
-fn sum_of_the_table_alone() {
+fn sum_of_the_table_alone(rt: &impl Print) -> io::Result<()> {
     let mut buf = [0xEEu8; 113];
     let table = Table {
         oem_low: 0x4944_4D41,
@@ -204,38 +203,38 @@ fn sum_of_the_table_alone() {
         third: structure(2, 0, 0x30, 0, 0),
     };
     match aspt_build::write(&mut buf, table) {
-        CheckAnswer::Accepted => show(b"ok\n"),
-        CheckAnswer::Refused(why) => show_refusal(why),
+        CheckAnswer::Accepted => show(rt, "ok\n")?,
+        CheckAnswer::Refused(why) => show_refusal(rt, why)?,
     }
-    show_reading(&buf);
+    show_reading(rt, &buf)?;
     // One less in the checksum, and one behind the table: all 113 bytes sum to 0.
     le::put8(&mut buf, 9, 0xCD);
     le::put8(&mut buf, 112, 1);
-    show_reading(&buf);
+    show_reading(rt, &buf)
 }
 
-fn run(f: Firmware, asked: u32) -> Firmware {
+fn run(rt: &impl Print, f: Firmware, asked: u32) -> io::Result<Firmware> {
     let ran = f.run(asked);
-    show(b"ok word=0x");
-    io::print_hex(STDOUT_FILENO, ran.word as u64, 8);
-    show(b"\n");
-    ran.firmware
+    let word = ran.word;
+    println!(rt; "ok word=0x{word:08x}")?;
+    Ok(ran.firmware)
 }
 
 // A descriptor is saved when the last part comes, whichever it is: here part 2, and then delivery is turned on.
-fn last_part_is_part_two() {
-    let f = run(Firmware::fresh(), 0x0080_0000);
-    let f = run(f, 0x0084_0400);
-    let f = run(f, 0x0082_0001);
-    let f = run(f, 0x0083_0002);
-    run(f, 0x0085_0401);
+fn last_part_is_part_two(rt: &impl Print) -> io::Result<()> {
+    let f = run(rt, Firmware::fresh(), 0x0080_0000)?;
+    let f = run(rt, f, 0x0084_0400)?;
+    let f = run(rt, f, 0x0082_0001)?;
+    let f = run(rt, f, 0x0083_0002)?;
+    run(rt, f, 0x0085_0401)?;
+    Ok(())
 }
 
-fn main() {
-    three_entries();
-    largest_directory();
-    range_of(0x20);
-    range_of(0x21);
-    sum_of_the_table_alone();
-    last_part_is_part_two();
+fn main(rt: HostRuntime) -> io::Result<()> {
+    three_entries(&rt)?;
+    largest_directory(&rt)?;
+    range_of(&rt, 0x20)?;
+    range_of(&rt, 0x21)?;
+    sum_of_the_table_alone(&rt)?;
+    last_part_is_part_two(&rt)
 }
