@@ -31,12 +31,16 @@ CAMEL = re.compile(r"(?<![A-Za-z0-9_'.])[a-z][a-z0-9]*(?:[A-Z][A-Za-z0-9]*)+(?![
 FIELD = re.compile(r"(?<=\.)[a-z][a-z0-9]*(?:[A-Z][A-Za-z0-9]*)+(?![A-Za-z0-9_])")
 
 
+# Names with an abbreviation in them.
+ABBREVIATED = {"fourGiB": "four_gib", "getD": "get_or"}
+
+
 def snake(name):
+    name = ABBREVIATED.get(name, name)
     return re.sub(r"(?<=[a-z0-9])([A-Z])", lambda m: "_" + m.group(1).lower(), name)
 
 
 def respelled(text):
-    text = text.replace("getD-upTo", "get_or-up_to")
     for pattern in (CAMEL, FIELD):
         text = pattern.sub(lambda m: snake(m.group(0)), text)
     return text

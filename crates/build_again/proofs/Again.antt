@@ -3,13 +3,12 @@ use mathlib.Core.Path.{◌≡◌, refl, sym, ap, subst, ◌∙◌}
 use mathlib.Core.List.{List, ◌∷◌, ◌++◌}
 use Prim.Native.Nat.{ℕ, zero, suc, ◌+◌, ◌≤◌}
 use native.Mathlib.Omega.{arith}
-use borrow.Author.Tests.{le-leb}
 use lib.ListN.{length, drop}
 use lib.Seq.{get_or-drop}
 use Rattle.le.specs.Le.{Bytes}
 use Rattle.reply.specs.Reply.{given, in_entry, met}
 use Rattle.reply.proofs.ReplyLaws.{then-given}
-use Rattle.directory.specs.Directory.{psp_kind, total_at, directory_of, directory_at, directory_by_cookie}
+use Rattle.directory.specs.Directory.{psp_kind, directory_of, directory_at, directory_by_cookie}
 use Rattle.directory.specs.Good.{GoodDirectory}
 use Rattle.directory.specs.declared.Kind.{Kind}
 use Rattle.directory.specs.declared.Directory.{Directory}

@@ -14,7 +14,7 @@ use Rattle.reply.specs.Scan.{scan, Lowest}
 use Rattle.reply.proofs.ReplyLaws.{past, clash, then-given, apart, either}
 use Rattle.reply.proofs.ScanLaws.{scan-same}
 use Rattle.reply.proofs.Lowest.{Searched, lowest, none, Decided, searched, lowest-found}
-use Rattle.window.specs.Window.{four_gi_b, window_start, offset_in, within}
+use Rattle.window.specs.Window.{four_gib, window_start, offset_in, within}
 use Rattle.window.specs.Inside.{Shown}
 use Rattle.window.proofs.Inside.{offset-shown, shown-offset}
 use Rattle.window.specs.declared.Offset.{Offset}
@@ -24,7 +24,7 @@ use Rattle.efs.specs.declared.Rules.{Rules}
 use Rattle.efs.specs.declared.Pointer.{Pointer}
 use Rattle.efs.specs.Good.{EfsAt, Absent, PointsTo, physical, flash, DirectoryPointer, late, early, GoodPointer, PointerAcceptance}
 
-module _ (window : ℕ) (fits : window ≤ four_gi_b) (s : List ℕ) where
+module _ (window : ℕ) (fits : window ≤ four_gib) (s : List ℕ) where
   -- where the window shows an address
   abbrev offset_by : ℕ → ℕ
   offset_by a = a - window_start window
@@ -114,7 +114,7 @@ present-says p f = by (absent p) refl
 present-fact : (p : ℕ) → absent p ≡ false → Absent p → ⊥
 present-fact p h a = apart (absent-says p a) h
 
-module _ (window : ℕ) (fits : window ≤ four_gi_b) (s : List ℕ) where
+module _ (window : ℕ) (fits : window ≤ four_gib) (s : List ℕ) where
   within-fact : (x o : Offset) → within s x.0 (given x) ≡ given o → (x.0 ≡ o.0) × (o.0 ≤ length s)
   within-fact x o e =
       let g = past (leb x.0 (length s)) _ _ _ e in
@@ -162,7 +162,7 @@ module _ (window : ℕ) (fits : window ≤ four_gi_b) (s : List ℕ) where
   pointers-given e o (early a f p) h = (record { field = 0x10; value = get efs.early s e.0; place = record { 0 = o } }, simp (absent-says _ a, present-says _ f, pointer-given _ o p h), refl)
 
 module _ (r : Rules) (s : List ℕ) where
-  only-pointer : (p : Pointer) → r.window ≤ four_gi_b → pointer_in r s ≡ given p → GoodPointer r s p.place.0 × (p.place.0 ≤ length s)
+  only-pointer : (p : Pointer) → r.window ≤ four_gib → pointer_in r s ≡ given p → GoodPointer r s p.place.0 × (p.place.0 ≤ length s)
   only-pointer p fits e =
       let u = then-given (efs_in r s) (pointer_of r.window s) e in
       let v = then-given (efs_place r.window r.candidates s) (λ o. given (efs_at s o)) u.1 in
@@ -171,7 +171,7 @@ module _ (r : Rules) (s : List ℕ) where
       let q = pointers-fact r.window fits s v.0 p (ap (pointer_of r.window s) is ∙ u.2) in
       (record { candidate = f.0; efs = f.1; pointer = subst (λ (e : ℕ). DirectoryPointer r.window s e p.place.0) (sym f.2) q.0 }, q.1)
 
-  all-pointer : (o : ℕ) → r.window ≤ four_gi_b → GoodPointer r s o → o ≤ length s → (p : Pointer) × (pointer_in r s ≡ given p) × (p.place.0 ≡ o)
+  all-pointer : (o : ℕ) → r.window ≤ four_gib → GoodPointer r s o → o ≤ length s → (p : Pointer) × (pointer_in r s ≡ given p) × (p.place.0 ≡ o)
   all-pointer o fits g h =
       let q = pointers-given r.window fits s (record { 0 = g.efs.here.place }) o g.pointer h in
       (q.0, ap (λ (x : Reply Offset). then (then x (λ o. given (efs_at s o))) (pointer_of r.window s)) (all-efs r.window fits s r.candidates g.candidate g.efs) ∙ q.1, q.2)

@@ -3,7 +3,7 @@ use Rattle.std.specs.Prelude.{ℕ, ◌+◌, ◌<◌, ◌≤◌, ◌≡◌, ◌�
 use Rattle.le.specs.Field.{get}
 use Rattle.reply.specs.Reply.{given}
 use Rattle.reply.specs.Scan.{Lowest}
-use Rattle.window.specs.Window.{four_gi_b, window_start}
+use Rattle.window.specs.Window.{four_gib, window_start}
 use Rattle.window.specs.Inside.{Shown}
 use Rattle.efs.specs.Fields as efs
 use Rattle.efs.specs.Efs.{pointer_in}
@@ -39,6 +39,6 @@ pub record GoodPointer (r : Rules) (image : List ℕ) (o : ℕ) : Type 0 where
 
 -- a pointer leads to an offset in the image exactly where it is that of the first candidate that counts; of a window that fits below 4 GiB
 pub record PointerAcceptance : Type 0 where
-  pub only : (r : Rules) (image : List ℕ) (p : Pointer) → r.window ≤ four_gi_b → pointer_in r image ≡ given p → GoodPointer r image p.place.0 × (p.place.0 ≤ length image)
-  pub all : (r : Rules) (image : List ℕ) (o : ℕ) → r.window ≤ four_gi_b → GoodPointer r image o → o ≤ length image →
+  pub only : (r : Rules) (image : List ℕ) (p : Pointer) → r.window ≤ four_gib → pointer_in r image ≡ given p → GoodPointer r image p.place.0 × (p.place.0 ≤ length image)
+  pub all : (r : Rules) (image : List ℕ) (o : ℕ) → r.window ≤ four_gib → GoodPointer r image o → o ≤ length image →
       (p : Pointer) × (pointer_in r image ≡ given p) × (p.place.0 ≡ o)

@@ -9,7 +9,7 @@ use lib.ListN.{length}
 use lib.Dec.{leb, eqb}
 use Rattle.reply.specs.Reply.{Reply, given, in_entry, then, met}
 use Rattle.reply.proofs.ReplyLaws.{past, passed, then-given, either, met-given}
-use Rattle.window.specs.Window.{four_gi_b, offset_in}
+use Rattle.window.specs.Window.{four_gib, offset_in}
 use Rattle.window.proofs.Inside.{offset-shown, shown-offset}
 use Rattle.window.specs.declared.Offset.{Offset}
 use Rattle.directory.specs.Directory.{entry_place}
@@ -27,7 +27,7 @@ use Rattle.entries.specs.declared.Part.{Part}
 within-given : (s : List ℕ) (x : ℕ) (p : Offset) → x ≡ p.0 → p.0 ≤ length s → place_in s x ≡ given p
 within-given s x p q h = passed _ _ _ _ (le-leb x (length s) (omega arith)) ∙ ap (λ (n : ℕ). given (record { 0 = n })) q
 
-module _ (window : ℕ) (fits : window ≤ four_gi_b) (s : List ℕ) (o : ℕ) (e : Entry) (p : Offset) where
+module _ (window : ℕ) (fits : window ≤ four_gib) (s : List ℕ) (o : ℕ) (e : Entry) (p : Offset) where
   pub lead-fact : e.mode ≤ 3 → leads_to window s o e ≡ given p → BeginsAt window o e p.0 × (p.0 ≤ length s)
   unfolding leads_to
   lead-fact m h =
@@ -53,7 +53,7 @@ module _ (window : ℕ) (fits : window ≤ four_gi_b) (s : List ℕ) (o : ℕ) (
 pub two-bits : (s : List ℕ) (e : ℕ) → (fields_at s e).mode ≤ 3
 two-bits s e = omega arith
 
-module _ (kind : Kind) (window : ℕ) (fits : window ≤ four_gi_b) (s : List ℕ) where
+module _ (kind : Kind) (window : ℕ) (fits : window ≤ four_gib) (s : List ℕ) where
   part-fact : (o : ℕ) (e : Entry) (p : Part) → e.mode ≤ 3 → part_of kind window s o e ≡ given p → GoodPart kind window s o e p
   unfolding part_of part_within
   part-fact o e p m h =

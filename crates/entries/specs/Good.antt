@@ -2,7 +2,7 @@
 use Rattle.std.specs.Prelude.{ℕ, ◌+◌, ◌<◌, ◌≤◌, ◌≡◌, List, false, length}
 use Rattle.reply.specs.Reply.{Carried, given, refused, alone, tested, OneToOne}
 use Rattle.reply.specs.Scan.{Lowest, None}
-use Rattle.window.specs.Window.{four_gi_b}
+use Rattle.window.specs.Window.{four_gib}
 use Rattle.window.specs.Inside.{Shown}
 use Rattle.directory.specs.Directory.{directory_at}
 use Rattle.entries.specs.Entry.{entry_of, entry_in, lead_of, lead_in, find_in, told_entry, told_lead, told_match}
@@ -81,4 +81,4 @@ pub record PartAcceptance (kind : Kind) (window : ℕ) (image : List ℕ) (d : D
 
 -- so it is through every window that fits below 4 GiB
 abbrev pub PartsAccepted : Type 0
-PartsAccepted = (kind : Kind) (window : ℕ) (image : List ℕ) (d : Directory) (i : ℕ) (p : Part) → window ≤ four_gi_b → PartAcceptance kind window image d i p
+PartsAccepted = (kind : Kind) (window : ℕ) (image : List ℕ) (d : Directory) (i : ℕ) (p : Part) → window ≤ four_gib → PartAcceptance kind window image d i p

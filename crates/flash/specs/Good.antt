@@ -2,7 +2,7 @@
 use Rattle.std.specs.Prelude.{ℕ, ◌≤◌, ◌≡◌, List}
 use Rattle.reply.specs.Reply.{given}
 use Rattle.reply.specs.Scan.{Lowest}
-use Rattle.window.specs.Window.{four_gi_b}
+use Rattle.window.specs.Window.{four_gib}
 use Rattle.entries.specs.Entry.{entry_of}
 use Rattle.directory.specs.Good.{GoodDirectory}
 use Rattle.entries.specs.Good.{Leads, BeginsAt}
@@ -40,4 +40,4 @@ pub record FlashAcceptance (r : Rules) (level : ℕ) (image : List ℕ) (d : Dir
 
 -- so it is by all rules with a window that fits below 4 GiB
 abbrev pub LevelsAccepted : Type 0
-LevelsAccepted = (r : Rules) (level : ℕ) (image : List ℕ) (d : Directory) → r.window ≤ four_gi_b → FlashAcceptance r level image d
+LevelsAccepted = (r : Rules) (level : ℕ) (image : List ℕ) (d : Directory) → r.window ≤ four_gib → FlashAcceptance r level image d

@@ -6,8 +6,8 @@ use native.Mathlib.Nat.{le-pred_of_lt}
 use native.Mathlib.Omega.{arith}
 use borrow.Author.Tests.{le-leb}
 use lib.ListN.{length, take, drop, length-append, length-drop, take-append-drop}
-use lib.Seq.{length-take-le, take-add, take_at, drop_at, drop-drop}
-use Rattle.le.specs.Le.{le_at, Bytes}
+use lib.Seq.{take_at, drop_at}
+use Rattle.le.specs.Le.{Bytes}
 use Rattle.le.proofs.Laws.{le-small}
 use Rattle.le.proofs.Part.{part_length, part-add, part-rest}
 use Rattle.reply.specs.Reply.{given}

@@ -14,7 +14,7 @@ use Rattle.reply.specs.Reply.{Reply, given, refused, alone, in_entry, guard, the
 use Rattle.reply.specs.Scan.{Lowest}
 use Rattle.reply.proofs.ReplyLaws.{past, clash, then-given, either, met-given}
 use Rattle.reply.proofs.ScanLaws.{scan-same}
-use Rattle.window.specs.Window.{four_gi_b, offset_in}
+use Rattle.window.specs.Window.{four_gib, offset_in}
 use Rattle.window.specs.Inside.{Shown, GoodLength}
 use Rattle.window.specs.declared.Offset.{Offset}
 use Rattle.window.proofs.Inside.{offset-fact, offset-given}
@@ -63,10 +63,10 @@ descending zero j i e h = let at : i ≡ j = omega arith in let q : candidate i 
 descending (suc k) j i e h = let r = descending k (suc j) i (omega arith) h in let l = lower j (omega arith) in omega arith
 
 -- a pointer that leads somewhere is below 4 GiB
-below-4-gib : (s : List ℕ) (p : ℕ) (o : Offset) → GoodLength s → pointer_to (length s) s p ≡ given o → p < four_gi_b
+below-4-gib : (s : List ℕ) (p : ℕ) (o : Offset) → GoodLength s → pointer_to (length s) s p ≡ given o → p < four_gib
 below-4-gib s p o good e = by (pointer-fact (length s) (fits s good) s p o e).0
   where
-    by : PointsTo (length s) p o.0 → p < four_gi_b
+    by : PointsTo (length s) p o.0 → p < four_gib
     by (pointer.physical shown) = omega (arith, shown.inside, shown.counted)
     by (pointer.flash f t q) = omega arith
 
@@ -150,28 +150,28 @@ module _ (front s : List ℕ) (short : GoodLength s) (allowed : GoodLength (fron
       ap (λ (x : Reply Offset). then x (λ o. given (efs_at t o))) (efs-place v.0 v.1) ∙ ap given (efs-same v.0 ∙ ap (moved_efs n) is)
 
   -- ---- the pointer
-  to : (p : ℕ) (o : Offset) → four_gi_b ≤ p + length s → pointer_to (length s) s p ≡ given o → pointer_to (length t) t p ≡ given (moved n o)
+  to : (p : ℕ) (o : Offset) → four_gib ≤ p + length s → pointer_to (length s) s p ≡ given o → pointer_to (length t) t p ≡ given (moved n o)
   to p o high e =
       let b = below-4-gib s p o short e in
       let l = long in
-      let is : p + length s - four_gi_b ≡ o.0 = let q = sym (told-physical s short p (high, b)) ∙ e in cc in
+      let is : p + length s - four_gib ≡ o.0 = let q = sym (told-physical s short p (high, b)) ∙ e in cc in
       told-physical t allowed p (omega arith, b) ∙ ap (λ (x : ℕ). given (record { 0 = x })) (omega arith)
 
-  from : (field v : ℕ) (p : Pointer) → pointer_from (length s) s field v ≡ given p → four_gi_b ≤ p.value + length s → pointer_from (length t) t field v ≡ given (moved_pointer n p)
+  from : (field v : ℕ) (p : Pointer) → pointer_from (length s) s field v ≡ given p → four_gib ≤ p.value + length s → pointer_from (length t) t field v ≡ given (moved_pointer n p)
   from field v p e high =
       let u = then-given (pointer_to (length s) s v) (λ o. given (record { field = field; value = v; place = o })) e in
       let is : record { field = field; value = v; place = u.0 } ≡ p = let g = u.2 in cc in
       let value : v ≡ p.value = ap (λ (x : Pointer). x.value) is in
       ap (λ (x : Reply Offset). then x (λ o. given (record { field = field; value = v; place = o }))) (to v u.0 (omega arith) u.1) ∙ ap (λ (x : Pointer). given (moved_pointer n x)) is
 
-  pointer-of : (e : Efs) (p : Pointer) → pointer_of (length s) s e ≡ given p → four_gi_b ≤ p.value + length s → pointer_of (length t) t (moved_efs n e) ≡ given (moved_pointer n p)
+  pointer-of : (e : Efs) (p : Pointer) → pointer_of (length s) s e ≡ given p → four_gib ≤ p.value + length s → pointer_of (length t) t (moved_efs n e) ≡ given (moved_pointer n p)
   unfolding pointer_of
   pointer-of e p h high =
       either (absent e.late) _ _ h
       (λ b x. let g = past (not (absent e.early)) _ _ _ x in simp (b, g.0) (from 0x10 e.early p g.1 high))
       (λ b y. simp b (from 0x14 e.late p y high))
 
-  pointer_in_lem : (p : Pointer) → pointer_in (rules_of s) s ≡ given p → four_gi_b ≤ p.value + length s → pointer_in (rules_of t) t ≡ given (moved_pointer n p)
+  pointer_in_lem : (p : Pointer) → pointer_in (rules_of s) s ≡ given p → four_gib ≤ p.value + length s → pointer_in (rules_of t) t ≡ given (moved_pointer n p)
   pointer_in_lem p h high =
       let u = then-given (efs_in (rules_of s) s) (pointer_of (length s) s) h in
       ap (λ (x : Reply Efs). then x (pointer_of (length t) t)) (efs-in u.0 u.1) ∙ pointer-of u.0 p u.2 high

@@ -12,7 +12,7 @@ use Rattle.le.specs.Field.{get}
 use Rattle.reply.specs.Reply.{Reply, given, refused, alone, then}
 use Rattle.reply.specs.Scan.{scan}
 use Rattle.reply.proofs.ReplyLaws.{passed, failed, then-given}
-use Rattle.window.specs.Window.{four_gi_b, window_start, offset_in}
+use Rattle.window.specs.Window.{four_gib, window_start, offset_in}
 use Rattle.window.specs.Inside.{Shown, GoodLength}
 use Rattle.window.specs.declared.Offset.{Offset}
 use Rattle.window.proofs.Inside.{offset-given}
@@ -50,30 +50,30 @@ module _ (image : List ℕ) where
   part-outside kind o e m value h = simp (ne_eqb _ _ value, lead-outside o e m h)
 
   -- a candidate below the window
-  over : (a : ℕ) (rest : Reply Offset) → a + length image < four_gi_b → or_else (candidate_at (length image) image a) rest ≡ rest
+  over : (a : ℕ) (rest : Reply Offset) → a + length image < four_gib → or_else (candidate_at (length image) image a) rest ≡ rest
   unfolding candidate_at
   over a rest h = simp (outside (length image) a (inl h))
 
   module _ (good : GoodLength image) where
     -- a window of the image's length fits below 4 GiB
-    pub fits : length image ≤ four_gi_b
+    pub fits : length image ≤ four_gib
     fits = let to = good.to in omega arith
 
-    address : (a : ℕ) → four_gi_b ≤ a + length image → a < four_gi_b → offset_in (length image) a ≡ given (record { 0 = a + length image - four_gi_b })
+    address : (a : ℕ) → four_gib ≤ a + length image → a < four_gib → offset_in (length image) a ≡ given (record { 0 = a + length image - four_gib })
     address a low high = let f = fits in offset-given (length image) a _ (omega arith) (omega arith) (omega arith)
 
-    pub told-physical : (p : ℕ) → PhysicalPointer (length image) p → pointer_to (length image) image p ≡ given (record { 0 = p + length image - four_gi_b })
+    pub told-physical : (p : ℕ) → PhysicalPointer (length image) p → pointer_to (length image) image p ≡ given (record { 0 = p + length image - four_gib })
     unfolding pointer_to
     told-physical p (low, high) =
         let f = fits in
-        let within : p + length image - four_gi_b ≤ length image = omega arith in
+        let within : p + length image - four_gib ≤ length image = omega arith in
         simp (le-leb (window_start (length image)) p (omega arith), address p low high, le-leb _ _ within)
 
     offset : (p : ℕ) → OffsetPointer (length image) p → pointer_to (length image) image p ≡ given (record { 0 = p })
     unfolding pointer_to
     offset p h = let to = good.to in simp (lt-leb (window_start (length image)) p (omega arith), lt-ltb _ _ h, le-leb p (length image) (omega arith))
 
-    neither : (p : ℕ) → p < four_gi_b → (PhysicalPointer (length image) p → ⊥) → (OffsetPointer (length image) p → ⊥) → pointer_to (length image) image p ≡ refused 7 alone
+    neither : (p : ℕ) → p < four_gib → (PhysicalPointer (length image) p → ⊥) → (OffsetPointer (length image) p → ⊥) → pointer_to (length image) image p ≡ refused 7 alone
     unfolding pointer_to
     neither p high not-physical not-offset = by (leb (window_start (length image)) p) (ltb p (length image)) refl refl
       where
@@ -95,7 +95,7 @@ module _ (image : List ℕ) where
         ∙ over 0xFF02_0000 _ (omega arith))
 
   -- every candidate has 0x24 bytes below 4 GiB
-  low : (i : ℕ) → i < 6 → candidate i + efs.bytes ≤ four_gi_b
+  low : (i : ℕ) → i < 6 → candidate i + efs.bytes ≤ four_gib
   low zero h = omega arith
   low (suc zero) h = omega arith
   low (suc (suc zero)) h = omega arith

@@ -1,7 +1,7 @@
 -- Images that end alike: with other bytes before it, an image is read as it was, each place as far from the end. Assumes nothing: these are statements.
 use Rattle.std.specs.Prelude.{ℕ, ◌+◌, ◌<◌, ◌≤◌, ◌≡◌, List, ◌++◌, length, take, drop}
 use Rattle.reply.specs.Reply.{Reply, given, refused}
-use Rattle.window.specs.Window.{four_gi_b, offset_in}
+use Rattle.window.specs.Window.{four_gib, offset_in}
 use Rattle.window.specs.Inside.{GoodLength}
 use Rattle.window.specs.declared.Offset.{Offset}
 use Rattle.directory.specs.declared.Directory.{Directory}
@@ -48,7 +48,7 @@ NoOffset e = e.mode ≡ 1 → ⊥
 
 -- no step of the way to a directory counts from the image's start: the EFS pointer is physical, and so or from the directory leads level one to level two
 pub record FromTheEnd (image : List ℕ) : Type 0 where
-  pub pointer : (p : Pointer) → flash_pointer (rules_of image) image ≡ given p → four_gi_b ≤ p.value + length image
+  pub pointer : (p : Pointer) → flash_pointer (rules_of image) image ≡ given p → four_gib ≤ p.value + length image
   pub lead : (d : Directory) (l : Lead) → flash_directory (rules_of image) 1 image ≡ given d → lead_in (rules_of image).kind image d ≡ given l → NoOffset l.entry
 
 -- nor does any other step of the walk through the whole image: each lead of level one leads to a good directory, and by no offset

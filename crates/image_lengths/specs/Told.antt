@@ -2,7 +2,7 @@
 use Rattle.std.specs.Prelude.{ℕ, ◌+◌, ◌-◌, ◌<◌, ◌≤◌, ◌≡◌, ◌⊎◌, List, [], length, get_or}
 use Rattle.le.specs.Field.{get}
 use Rattle.reply.specs.Reply.{Reply, given, refused, alone}
-use Rattle.window.specs.Window.{four_gi_b, offset_in}
+use Rattle.window.specs.Window.{four_gib, offset_in}
 use Rattle.window.specs.Inside.{Shown, GoodLength}
 use Rattle.window.specs.declared.Offset.{Offset}
 use Rattle.directory.specs.declared.Kind.{Kind}
@@ -19,7 +19,7 @@ use Rattle.flash.specs.Good.{FlashAcceptance}
 
 -- outside the window of an image of so many bytes: below its begin, or at 4 GiB and above
 abbrev pub Outside : (long a : ℕ) → Type 0
-Outside long a = (a + long < four_gi_b) ⊎ (four_gi_b ≤ a)
+Outside long a = (a + long < four_gib) ⊎ (four_gib ≤ a)
 
 -- the physical addresses of an image, whatever its length
 pub record AddressesTold (image : List ℕ) : Type 0 where
@@ -31,7 +31,7 @@ pub record AddressesTold (image : List ℕ) : Type 0 where
 
 -- an EFS pointer of an image of so many bytes is physical at the window's begin or above, and an offset below the image's length
 abbrev pub PhysicalPointer : (long p : ℕ) → Type 0
-PhysicalPointer long p = (four_gi_b ≤ p + long) × (p < four_gi_b)
+PhysicalPointer long p = (four_gib ≤ p + long) × (p < four_gib)
 
 abbrev pub OffsetPointer : (long p : ℕ) → Type 0
 OffsetPointer long p = p < long
@@ -39,11 +39,11 @@ OffsetPointer long p = p < long
 -- of an image of a length that is allowed
 pub record LengthTold (image : List ℕ) : Type 0 where
   -- an address in the window is an offset, counted from the window's begin
-  pub address : (a : ℕ) → four_gi_b ≤ a + length image → a < four_gi_b → offset_in (length image) a ≡ given (record { 0 = a + length image - four_gi_b })
+  pub address : (a : ℕ) → four_gib ≤ a + length image → a < four_gib → offset_in (length image) a ≡ given (record { 0 = a + length image - four_gib })
   -- so is a physical pointer; an offset is itself; any other pointer is 7
-  pub physical : (p : ℕ) → PhysicalPointer (length image) p → pointer_to (length image) image p ≡ given (record { 0 = p + length image - four_gi_b })
+  pub physical : (p : ℕ) → PhysicalPointer (length image) p → pointer_to (length image) image p ≡ given (record { 0 = p + length image - four_gib })
   pub offset : (p : ℕ) → OffsetPointer (length image) p → pointer_to (length image) image p ≡ given (record { 0 = p })
-  pub neither : (p : ℕ) → p < four_gi_b → (PhysicalPointer (length image) p → ⊥) → (OffsetPointer (length image) p → ⊥) → pointer_to (length image) image p ≡ refused 7 alone
+  pub neither : (p : ℕ) → p < four_gib → (PhysicalPointer (length image) p → ⊥) → (OffsetPointer (length image) p → ⊥) → pointer_to (length image) image p ≡ refused 7 alone
 
 -- the shortest image with an EFS: the first candidate lies 384 KiB below 4 GiB
 abbrev pub shortest : ℕ
@@ -56,7 +56,7 @@ candidate i = get_or (rules_of []).candidates i 0
 -- where an EFS may be, in an image of any length
 pub record CandidatesTold (image : List ℕ) : Type 0 where
   -- one below the window is passed over, whatever stands in the image
-  pub passed_over : (a : ℕ) (rest : Reply Offset) → a + length image < four_gi_b → or_else (candidate_at (length image) image a) rest ≡ rest
+  pub passed_over : (a : ℕ) (rest : Reply Offset) → a + length image < four_gib → or_else (candidate_at (length image) image a) rest ≡ rest
   -- the EFS that is used stands at a candidate that the window shows, and has the signature there
   pub used : (e : Efs) → flash_efs (rules_of image) image ≡ given e →
       (i : ℕ) × (i < 6) × Shown (length image) (candidate i) e.place.0 × (get efs.signature image e.place.0 ≡ 0x55AA_55AA)

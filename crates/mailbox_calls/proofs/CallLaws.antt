@@ -7,7 +7,6 @@ use lib.ListN.{get_or}
 use borrow.Author.Tests.{ne_eqb, le-leb, lt-leb}
 use Rattle.reply.specs.Reply.{Reply, given, refused, alone, guard}
 use Rattle.firmware.specs.Rules.{run_of}
-use Rattle.firmware.specs.declared.Firmware.{Firmware}
 use Rattle.firmware.specs.declared.Ran.{Ran}
 use Rattle.mailbox.specs.declared.Phase.TheVariants.{Idle, Command, Response}
 use Rattle.mailbox.specs.declared.PlaceState.TheVariants.{Free, Waiting, Ready}

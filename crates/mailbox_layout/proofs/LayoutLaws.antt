@@ -62,8 +62,8 @@ pub unpacked-whole : (ws : List ℕ) → Whole (unpack_of ws)
 unfolding unpack_of firmware_from
 unpacked-whole ws = record { line-long = length-up_to _ 8; places-long = length-up_to _ 8; interrupts-long = length-up_to _ 64 }
 
-get_d_past : {A : Type 0} (a b : List A) (d : A) (k i : ℕ) → length a ≡ k → k ≤ i → get_or (a ++ b) i d ≡ get_or b (i - k) d
-get_d_past a b d k i e p =
+get_or_past : {A : Type 0} (a b : List A) (d : A) (k i : ℕ) → length a ≡ k → k ≤ i → get_or (a ++ b) i d ≡ get_or b (i - k) d
+get_or_past a b d k i e p =
     let at : i ≡ length a + (i - k) = omega arith in
     ap (λ (j : ℕ). get_or (a ++ b) j d) at ∙ get_or-append-add a b (i - k) d
 
@@ -104,17 +104,17 @@ module _ (m : Mailbox) (w : Whole m) where
   module _ (i : ℕ) where
     past_head : 8 ≤ i → get_or (pack_of m) i 0 ≡ get_or (posts ++ (spots ++ kept)) (i - 8) 0
     unfolding pack_of
-    past_head a = get_d_past head (posts ++ (spots ++ kept)) 0 8 i refl a
+    past_head a = get_or_past head (posts ++ (spots ++ kept)) 0 8 i refl a
 
     past-line : 16 ≤ i → get_or (pack_of m) i 0 ≡ get_or (spots ++ kept) (i - 16) 0
     past-line b =
         let e : i - 8 - 8 ≡ i - 16 = omega arith in
-        past_head (omega arith) ∙ (get_d_past posts (spots ++ kept) 0 8 (i - 8) posts-long (omega arith) ∙ ap (λ (j : ℕ). get_or (spots ++ kept) j 0) e)
+        past_head (omega arith) ∙ (get_or_past posts (spots ++ kept) 0 8 (i - 8) posts-long (omega arith) ∙ ap (λ (j : ℕ). get_or (spots ++ kept) j 0) e)
 
     past-places : 24 ≤ i → get_or (pack_of m) i 0 ≡ get_or kept (i - 24) 0
     past-places d =
         let e : i - 16 - 8 ≡ i - 24 = omega arith in
-        past-line (omega arith) ∙ (get_d_past spots kept 0 8 (i - 16) spots-long (omega arith) ∙ ap (λ (j : ℕ). get_or kept j 0) e)
+        past-line (omega arith) ∙ (get_or_past spots kept 0 8 (i - 16) spots-long (omega arith) ∙ ap (λ (j : ℕ). get_or kept j 0) e)
 
     pub pack-head : i < 8 → get_or (pack_of m) i 0 ≡ get_or (head_of m) i 0
     unfolding pack_of

@@ -9,7 +9,7 @@ use borrow.Author.Tests.{leb-true, eqb-true, eqb-false, le-leb}
 use lib.Dec.{leb, eqb}
 use Rattle.reply.specs.Reply.{Reply, Carried, given, refused, alone, tested, in_entry, then}
 use Rattle.reply.proofs.ReplyLaws.{passed}
-use Rattle.window.specs.Window.{four_gi_b}
+use Rattle.window.specs.Window.{four_gib}
 use Rattle.window.specs.Length.{length_allowed}
 use Rattle.window.proofs.Length.{allowed-fact, sized_past}
 use Rattle.directory.specs.Directory.{directory_at}
@@ -33,7 +33,7 @@ use Rattle.places_told.proofs.Checks.{directory-only, directory-all}
 use Rattle.places_told.proofs.Parts.{led-only, led-all, part-stopped}
 
 -- a directory that a level gives is good, and has that level
-pub good_of : (r : Rules) → r.window ≤ four_gi_b → (s : List ℕ) (d : Directory) (level : ℕ) → flash_directory r level s ≡ given d → GoodDirectory r.kind r.limit s d × (d.level ≡ level)
+pub good_of : (r : Rules) → r.window ≤ four_gib → (s : List ℕ) (d : Directory) (level : ℕ) → flash_directory r level s ≡ given d → GoodDirectory r.kind r.limit s d × (d.level ≡ level)
 good_of r fits s d level e = by ((levels-accepted r level s d fits).only e).1
   where
     by : {l : ℕ} → GoodLevel r s d l → GoodDirectory r.kind r.limit s d × (d.level ≡ l)
@@ -59,7 +59,7 @@ module _ (r : Rules) (level : ℕ) (s : List ℕ) (n : ℕ) (c : Carried) where
   unfolding flash_directory
   first-fault e = stopped (length_allowed s) 15 _ _ e (λ b m k. alone-fault (sym k)) (λ b. one-fault)
 
-  module _ (fits : r.window ≤ four_gi_b) where
+  module _ (fits : r.window ≤ four_gib) where
     -- what the lowest lead leads to
     pub found-fault : level ≡ 2 → (d : Directory) → flash_directory r 1 s ≡ given d → (l : Lead) → lead_in r.kind s d ≡ given l → level_two_at r s d l.index l.entry ≡ refused n c → FlashFault r level s n c
     found-fault two d e l g q =
@@ -115,7 +115,7 @@ module _ (r : Rules) (level : ℕ) (s : List ℕ) (n : ℕ) (there : (level ≡ 
       by (inl e) = rw e q
       by (inr e) = rw e (ap (λ (x : Reply Directory). then x (level_two r s)) q)
 
-  pub directory-back : r.window ≤ four_gi_b → length_allowed s ≡ true → (c : Carried) → (c ≡ alone → ⊥) → FlashFault r level s n c → flash_directory r level s ≡ refused n c
+  pub directory-back : r.window ≤ four_gib → length_allowed s ≡ true → (c : Carried) → (c ≡ alone → ⊥) → FlashFault r level s n c → flash_directory r level s ≡ refused n c
   unfolding flash_directory
   directory-back fits long c some f = passed _ _ _ _ (le-leb _ _ (there-from level there)) ∙ passed _ _ _ _ (le-leb _ _ (there-to level there)) ∙ passed _ _ _ _ long ∙ by c some f
     where

@@ -10,7 +10,7 @@ use lib.ListN.{length}
 use lib.Dec.{leb, eqb}
 use Rattle.reply.specs.Reply.{Reply, Carried, given, refused, alone, in_entry, then, met}
 use Rattle.reply.proofs.ReplyLaws.{clash}
-use Rattle.window.specs.Window.{four_gi_b}
+use Rattle.window.specs.Window.{four_gib}
 use Rattle.window.specs.declared.Offset.{Offset}
 use Rattle.directory.specs.Directory.{directory_at, entry_place}
 use Rattle.directory.specs.declared.Kind.{Kind}
@@ -36,7 +36,7 @@ abbrev pub here : Directory → (i : ℕ) → Carried
 here d i = in_entry d.level i d.place.0
 
 -- what entry i of a directory leads to is refused exactly by its location, or by the directory there
-module _ (r : Rules) (fits : r.window ≤ four_gi_b) (s : List ℕ) (d : Directory) (i n : ℕ) where
+module _ (r : Rules) (fits : r.window ≤ four_gib) (s : List ℕ) (d : Directory) (i n : ℕ) where
   pub led-only : (c : Carried) → led_to r s d i ≡ refused n c → LedFault r s d i n c
   led-only c e = by ((leads-told r s d i fits).refused-only n c e)
     where
@@ -59,7 +59,7 @@ module _ (r : Rules) (fits : r.window ≤ four_gi_b) (s : List ℕ) (d : Directo
       by (in-lead f) = why f
       by {c = c} (in_two place b h f) = bad-directory place b h (directory-all r.kind r.limit 2 s place n c (inr refl) f)
 
-module _ (kind : Kind) (window : ℕ) (fits : window ≤ four_gi_b) (s : List ℕ) (d : Directory) (i : ℕ) where
+module _ (kind : Kind) (window : ℕ) (fits : window ≤ four_gib) (s : List ℕ) (d : Directory) (i : ℕ) where
   abbrev o : ℕ
   o = d.place.0
 

@@ -8,7 +8,7 @@ use lib.ListN.{length}
 use lib.Dec.{leb}
 use Rattle.reply.specs.Reply.{Carried, refused, alone, in_entry}
 use Rattle.reply.proofs.ReplyLaws.{passed}
-use Rattle.window.specs.Window.{four_gi_b}
+use Rattle.window.specs.Window.{four_gib}
 use Rattle.window.specs.Length.{length_allowed}
 use Rattle.efs.specs.declared.Rules.{Rules}
 use Rattle.place.specs.Place.{check_at, entry_at, part_at}
@@ -37,7 +37,7 @@ module _ (r : Rules) (s : List ℕ) (n : ℕ) (c : Carried) (place : ℕ) where
   pub place-entry-fault : (i : ℕ) → entry_at r s place i ≡ refused n c → PlaceFault r s place n c
   place-entry-fault i e = then-stopped (check_at r s place) _ e place-fault (λ d q e. told-alone (entry-alone r.kind s d i n c e))
 
-  pub place-part-fault : r.window ≤ four_gi_b → (i : ℕ) → part_at r s place i ≡ refused n c → PlacePartFault r s place i n c
+  pub place-part-fault : r.window ≤ four_gib → (i : ℕ) → part_at r s place i ≡ refused n c → PlacePartFault r s place i n c
   place-part-fault fits i e =
       then-stopped (check_at r s place) _ e (λ q. of-place (place-fault q))
       (λ d q e. part-stopped r.kind r.window fits s d i n c e (λ k. of-place (told-alone k))

@@ -7,7 +7,7 @@ use Prim.Native.Nat.{ℕ, ◌≤◌}
 use lib.Dec.{leb, eqb}
 use Rattle.reply.specs.Reply.{Reply, Carried, given, refused, alone, then, met}
 use Rattle.reply.proofs.ReplyLaws.{clash}
-use Rattle.window.specs.Window.{four_gi_b}
+use Rattle.window.specs.Window.{four_gib}
 use Rattle.window.specs.Length.{length_allowed}
 use Rattle.window.specs.declared.Offset.{Offset}
 use Rattle.window.proofs.Length.{sized_past}
@@ -42,7 +42,7 @@ named-stopped {C = C} {n = n} {c = c} kind limit level s o e f g = by (directory
     by (given d) q e = g (sym (cc e))
     by (refused m w) q e = told m w q (eqb m 18) e
 
-module _ (r : Rules) (level : ℕ) (s : List ℕ) (n : ℕ) (c : Carried) (fits : r.window ≤ four_gi_b) where
+module _ (r : Rules) (level : ℕ) (s : List ℕ) (n : ℕ) (c : Carried) (fits : r.window ≤ four_gib) where
   one-repeats : repeats_one r s ≡ refused n c → FlashFault r level s n c
   one-repeats e =
       then-stopped (flash_pointer r s) _ e (λ e. stopped (length_allowed s) 15 _ _ e (λ b m k. alone-fault r level s n c (sym k)) (λ b e. alone-fault r level s n c (pointer-alone r s n c e)))

@@ -4,7 +4,7 @@ use mathlib.Core.Logic.{◌⊎◌, inl, inr}
 use mathlib.Core.List.{List}
 use Prim.Native.Nat.{ℕ, ◌≤◌}
 use Rattle.reply.specs.Reply.{Carried, refused, alone}
-use Rattle.window.specs.Window.{four_gi_b}
+use Rattle.window.specs.Window.{four_gib}
 use Rattle.directory.specs.Directory.{psp_kind, directory_by_cookie}
 use Rattle.entries.specs.Entry.{entry_in}
 use Rattle.efs.specs.declared.Rules.{Rules}
@@ -35,7 +35,7 @@ checks-told = record {
   part-all = λ kind window s d i n fits inside. part-all kind window fits s d i inside n;
 }
 
-pub calls-told : (r : Rules) (s : List ℕ) → r.window ≤ four_gi_b → CallsTold r s
+pub calls-told : (r : Rules) (s : List ℕ) → r.window ≤ four_gib → CallsTold r s
 calls-told r s fits = record {
   directory = λ level n c. directory-fault r level s n c fits;
   entry = λ level i n c. next-fault r level s n c fits (λ d. entry_in r.kind s d i) (λ d. entry-alone r.kind s d i);

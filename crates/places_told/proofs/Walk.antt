@@ -5,7 +5,7 @@ use mathlib.Core.List.{List}
 use Prim.Native.Nat.{ℕ, ◌≤◌}
 use Rattle.reply.specs.Reply.{Carried, given, refused}
 use Rattle.reply.proofs.ReplyLaws.{clash}
-use Rattle.window.specs.Window.{four_gi_b}
+use Rattle.window.specs.Window.{four_gib}
 use Rattle.directory.specs.declared.Directory.{Directory}
 use Rattle.efs.specs.declared.Rules.{Rules}
 use Rattle.flash.specs.Flash.{flash_directory}
@@ -20,7 +20,7 @@ use Rattle.places_told.proofs.Refused.{refusal, then-stopped}
 use Rattle.places_told.proofs.Parts.{led-only}
 use Rattle.places_told.proofs.Flash.{directory-fault, lookup-fault}
 
-module _ (r : Rules) (s : List ℕ) (n : ℕ) (c : Carried) (fits : r.window ≤ four_gi_b) where
+module _ (r : Rules) (s : List ℕ) (n : ℕ) (c : Carried) (fits : r.window ≤ four_gib) where
   -- what a lead of level one leads to
   lead-fault : (d : Directory) (i : ℕ) → flash_directory r 1 s ≡ given d → FaultAt r s d i n c → WalkFault r s n c
   lead-fault d i e f = of-a-lead d i e f.inside f.lead (led-only r fits s d i n c f.fault)

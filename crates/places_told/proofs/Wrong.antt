@@ -10,7 +10,7 @@ use lib.ListN.{length}
 use Rattle.reply.specs.Reply.{Reply, Carried, given, refused, alone}
 use Rattle.reply.proofs.ReplyLaws.{passed}
 use Rattle.window.specs.Length.{length_allowed}
-use Rattle.window.specs.Window.{four_gi_b}
+use Rattle.window.specs.Window.{four_gib}
 use Rattle.window.proofs.Length.{allowed-fact}
 use Rattle.directory.specs.Directory.{psp_kind, directory_at}
 use Rattle.directory.specs.Good.{GoodDirectory}
@@ -89,7 +89,7 @@ module _ (r : Rules) (s : List ℕ) (allowed : length_allowed s ≡ true) where
     part = part-told;
   }
 
-  module _ (fits : r.window ≤ four_gi_b) (other : r.kind.lead ≡ r.kind.value → ⊥) where
+  module _ (fits : r.window ≤ four_gib) (other : r.kind.lead ≡ r.kind.value → ⊥) where
     led-told : {n : ℕ} {c : Carried} (d : Directory) (i : ℕ) → flash_directory r 1 s ≡ given d → i < d.total → Leads r.kind s d i → LedFault r s d i n c → Answered r s n c
     led-told {n = n} d i e inside l (in-lead f) =
         part-told d i (good_of r fits s d 1 e).0 n (here d i) (part-all r.kind r.window fits s d i inside n (lead-part r.kind r.window fits s d i (λ v. other (sym l ∙ v)) f))

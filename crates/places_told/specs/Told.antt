@@ -3,7 +3,7 @@ use Rattle.std.specs.Prelude.{ℕ, ◌<◌, ◌≤◌, ◌≡◌, ◌⊎◌, Lis
 use Rattle.reply.specs.Reply.{Carried, given, refused, alone, tested, in_entry}
 use Rattle.reply.specs.Scan.{Lowest, None}
 use Rattle.window.specs.Length.{length_allowed}
-use Rattle.window.specs.Window.{four_gi_b}
+use Rattle.window.specs.Window.{four_gib}
 use Rattle.directory.specs.Directory.{psp_kind, directory_at, directory_by_cookie}
 use Rattle.directory.specs.declared.Kind.{Kind}
 use Rattle.directory.specs.declared.Directory.{Directory}
@@ -35,9 +35,9 @@ pub record ChecksTold : Type 0 where
   pub cookie-all : (kind : Kind) (limit : ℕ) (image : List ℕ) (o number : ℕ) (carried : Carried) → (kind.one ≡ kind.two → ⊥) →
       CookieFault kind limit image o number carried → directory_by_cookie kind limit image o ≡ refused number carried
   -- through a window that fits below 4 GiB
-  pub part-only : (kind : Kind) (window : ℕ) (image : List ℕ) (d : Directory) (i number : ℕ) (carried : Carried) → window ≤ four_gi_b → i < d.total →
+  pub part-only : (kind : Kind) (window : ℕ) (image : List ℕ) (d : Directory) (i number : ℕ) (carried : Carried) → window ≤ four_gib → i < d.total →
       part_in kind window image d i ≡ refused number carried → PartFault kind window image d i number × (carried ≡ in_entry d.level i d.place.0)
-  pub part-all : (kind : Kind) (window : ℕ) (image : List ℕ) (d : Directory) (i number : ℕ) → window ≤ four_gi_b → i < d.total →
+  pub part-all : (kind : Kind) (window : ℕ) (image : List ℕ) (d : Directory) (i number : ℕ) → window ≤ four_gib → i < d.total →
       PartFault kind window image d i number → part_in kind window image d i ≡ refused number (in_entry d.level i d.place.0)
 
 -- ---- the calls: what each passes on, of a directory of level one or two of an image
@@ -124,7 +124,7 @@ pub record NothingCarried : Type 0 where
 -- ---- all of it
 pub record PlacesTold : Type 0 where
   pub checks : ChecksTold
-  pub calls : (r : Rules) (image : List ℕ) → r.window ≤ four_gi_b → CallsTold r image
+  pub calls : (r : Rules) (image : List ℕ) → r.window ≤ four_gib → CallsTold r image
   -- an extend refuses by the directory that is there, or by its new entry
   pub extend : (f : Fields) (s : List ℕ) (number : ℕ) (carried : Carried) → extend_of f s ≡ refused number carried → (carried ≡ alone) ⊎ CookieFault psp_kind 512 s 0 number carried
   pub nothing : NothingCarried

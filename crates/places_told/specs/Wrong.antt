@@ -2,7 +2,7 @@
 use Rattle.std.specs.Prelude.{ℕ, ◌≤◌, ◌≡◌, ◌⊎◌, List, true, length}
 use Rattle.reply.specs.Reply.{Reply, Carried, given, refused, alone, tested, in_header, in_entry}
 use Rattle.window.specs.Length.{length_allowed}
-use Rattle.window.specs.Window.{four_gi_b}
+use Rattle.window.specs.Window.{four_gib}
 use Rattle.directory.specs.Directory.{directory_at, directory_by_cookie}
 use Rattle.directory.specs.Good.{GoodDirectory}
 use Rattle.directory.specs.declared.Directory.{Directory}
@@ -55,7 +55,7 @@ pub record CallsAnswered (r : Rules) (image : List ℕ) : Type 0 where
 pub record PlacesAnswered : Type 0 where
   pub checks : (r : Rules) (image : List ℕ) → length_allowed image ≡ true → ChecksAnswered r image
   -- by rules with a window that fits below 4 GiB, of a kind whose leads are no values
-  pub calls : (r : Rules) (image : List ℕ) → length_allowed image ≡ true → r.window ≤ four_gi_b → (r.kind.lead ≡ r.kind.value → ⊥) → CallsAnswered r image
+  pub calls : (r : Rules) (image : List ℕ) → length_allowed image ≡ true → r.window ≤ four_gib → (r.kind.lead ≡ r.kind.value → ⊥) → CallsAnswered r image
   -- by the rules of that image, as the call is asked, and so of an extend
   pub document : (image : List ℕ) → length_allowed image ≡ true → CallsAnswered (rules_of image) image
   pub extend : (f : Fields) (image : List ℕ) → length_allowed image ≡ true → Answers (rules_of image) image (extend_of f image)

@@ -21,11 +21,9 @@ use Rattle.entries.specs.declared.Lead.{Lead}
 use Rattle.entries.specs.declared.Match.{Match}
 use Rattle.entries.proofs.Once.{no-repeats}
 use Rattle.efs.specs.Efs.{pointer_in}
-use Rattle.window.specs.Length.{sized}
 use Rattle.efs.specs.Rules.{rules_of}
 use Rattle.efs.specs.Efs.{flash_pointer}
 use Rattle.flash.specs.Flash.{level_one, level_two, level_two_at, flash_directory, from_lookup, flash_find}
-use Rattle.window.specs.Inside.{GoodLength}
 use Rattle.efs.specs.declared.Pointer.{Pointer}
 use Rattle.window.proofs.Length.{sized-passed, sized_past}
 use Rattle.flash.proofs.Ways.{Opened, one, two, opened, led-given}

@@ -1,6 +1,6 @@
 -- Source document 001's example, the header of a boot loader: version 00.08.01.74. Assumes nothing.
 use mathlib.Core.Path.{◌≡◌, refl}
-use mathlib.Core.List.{List, [], ◌∷◌, ◌++◌}
+use mathlib.Core.List.{List, ◌∷◌, ◌++◌}
 use lib.ListN.{replicate}
 use Prim.Native.Nat.{ℕ}
 use Rattle.le.specs.Le.{le_at}

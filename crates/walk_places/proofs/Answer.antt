@@ -15,7 +15,7 @@ use Rattle.entries.specs.Entry.{entry_of, matches}
 use Rattle.entries.specs.Good.{Matches}
 use Rattle.entries.proofs.Lowest.{match-says, match-holds}
 use Rattle.efs.specs.declared.Rules.{Rules}
-use Rattle.walk.specs.Walk.{Step, fault, entries_from, below_of, walk_from, walk_of, first_in}
+use Rattle.walk.specs.Walk.{Step, entries_from, below_of, walk_from, walk_of, first_in}
 use Rattle.walk.specs.declared.ImageMatch.{ImageMatch}
 use Rattle.walk_places.specs.Places.{Spot, top, below, outer, inner, level_at, led_to, Enters, FaultAt, IsIn, MatchAt, Reached, total_below, totals_below, spots_to}
 use Rattle.walk_places.specs.Lookup.{FirstMatch, FirstFault, Nothing, Answered, matched, faulty, ended}

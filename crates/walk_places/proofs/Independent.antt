@@ -9,7 +9,7 @@ use borrow.Author.Tests.{eqb-true}
 use lib.Dec.{leb, eqb}
 use Rattle.reply.specs.Reply.{Reply, Carried, given, refused, tested, guard, then}
 use Rattle.reply.proofs.ReplyLaws.{then-given, then_same}
-use Rattle.window.specs.Window.{four_gi_b, offset_in, within}
+use Rattle.window.specs.Window.{four_gib, offset_in, within}
 use Rattle.window.specs.declared.Offset.{Offset}
 use Rattle.directory.specs.declared.Directory.{Directory}
 use Rattle.directory.specs.Directory.{directory_at}
@@ -86,7 +86,7 @@ module _ (r : Rules) (s t : List ℕ) (wide : 16 ≤ r.kind.entry) where
   match_back : (n : Directory) → Agree s t n.place.0 (end_of r.kind n) → (class sub i : ℕ) → i < n.total → Matches r.kind t n class sub i → Matches r.kind s n class sub i
   match_back n a class sub i h = subst (λ (e : Entry). (e.class ≡ class) × (e.subprogram ≡ sub)) (sym (same-entry n a i h))
 
-module _ (r : Rules) (s t : List ℕ) (class sub : ℕ) (fits : r.window ≤ four_gi_b) (wide : 16 ≤ r.kind.entry) (way : SameWalk r s t class sub) where
+module _ (r : Rules) (s t : List ℕ) (class sub : ℕ) (fits : r.window ≤ four_gib) (wide : 16 ≤ r.kind.entry) (way : SameWalk r s t class sub) where
   -- ---- the way to level one
   pointer-same : (p : ℕ) → pointer_to r.window s p ≡ pointer_to r.window t p
   unfolding pointer_to

@@ -9,7 +9,7 @@ use lib.ListN.{length}
 use lib.Dec.{leb, eqb}
 use Rattle.reply.specs.Reply.{Reply, Carried, given, refused, alone, in_entry, guard, then, met}
 use Rattle.reply.proofs.ReplyLaws.{clash, then-given, then_same, met-given}
-use Rattle.window.specs.Window.{four_gi_b, window_start, offset_in}
+use Rattle.window.specs.Window.{four_gib, window_start, offset_in}
 use Rattle.directory.specs.declared.Directory.{Directory}
 use Rattle.directory.specs.Directory.{directory_at}
 use Rattle.directory.specs.Good.{GoodDirectory}
@@ -87,7 +87,7 @@ module _ (r : Rules) (s : List ℕ) (d : Directory) (i : ℕ) where
   by_mode : (entry_of r.kind s d i).mode ≡ 3 → led_to r s d i ≡ refused 16 (here d i)
   by_mode m = led (refused 16 alone) (sym (lead-mode r.window s d.place.0 (entry_of r.kind s d i) m))
 
-  module _ (fits : r.window ≤ four_gi_b) where
+  module _ (fits : r.window ≤ four_gib) where
     lead-at : (place : ℕ) → Begins r s d i place → place ≤ length s → leads r s d i ≡ given (record { 0 = place })
     lead-at place = lead-given r.window fits s d.place.0 (entry_of r.kind s d i) (record { 0 = place })
 
@@ -150,7 +150,7 @@ module _ (r : Rules) (s : List ℕ) (d : Directory) (i : ℕ) where
   level-two n q = let t = somewhere n q in (acceptance.only r.kind r.limit 2 s t.0.0 n t.2).2
 
 -- two images of one length lead to one place, and the directory there decides
-pub two-same : (r : Rules) → r.window ≤ four_gi_b → (s t : List ℕ) → length s ≡ length t → (d : Directory) (i : ℕ) →
+pub two-same : (r : Rules) → r.window ≤ four_gib → (s t : List ℕ) → length s ≡ length t → (d : Directory) (i : ℕ) →
     ((place : ℕ) → Begins r s d i place → place ≤ length s → directory_at r.kind r.limit 2 s place ≡ directory_at r.kind r.limit 2 t place) →
     led_to r s d i ≡ level_two_at r t d i (entry_of r.kind s d i)
 two-same r fits s t long d i f =

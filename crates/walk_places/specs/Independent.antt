@@ -2,7 +2,7 @@
 use Rattle.std.specs.Prelude.{ℕ, ◌<◌, ◌≤◌, ◌≡◌, List, length}
 use Rattle.le.specs.Field.{get}
 use Rattle.reply.specs.Reply.{given}
-use Rattle.window.specs.Window.{four_gi_b}
+use Rattle.window.specs.Window.{four_gib}
 use Rattle.window.specs.declared.Offset.{Offset}
 use Rattle.directory.specs.declared.Kind.{Kind}
 use Rattle.directory.specs.declared.Directory.{Directory}
@@ -35,7 +35,7 @@ pub record SameWalk (r : Rules) (image other : List ℕ) (class sub : ℕ) : Typ
 
 -- such images have the same answer, given or refused; by rules with a window that fits below 4 GiB, of a kind whose entries have 16 bytes or more
 abbrev pub Independent : Find → Type 0
-Independent find = (r : Rules) (image other : List ℕ) (class sub : ℕ) → r.window ≤ four_gi_b → 16 ≤ r.kind.entry → SameWalk r image other class sub →
+Independent find = (r : Rules) (image other : List ℕ) (class sub : ℕ) → r.window ≤ four_gib → 16 ≤ r.kind.entry → SameWalk r image other class sub →
     find r image class sub ≡ find r other class sub
 
 abbrev pub ImageIndependence : Type 0

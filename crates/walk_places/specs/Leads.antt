@@ -1,7 +1,7 @@
 -- Where an entry of level one leads, told by the bytes. Assumes nothing: these are statements.
 use Rattle.std.specs.Prelude.{ℕ, ◌<◌, ◌≤◌, ◌≡◌, List, length}
 use Rattle.reply.specs.Reply.{Carried, given, refused, in_entry}
-use Rattle.window.specs.Window.{four_gi_b}
+use Rattle.window.specs.Window.{four_gib}
 use Rattle.directory.specs.declared.Directory.{Directory}
 use Rattle.directory.specs.Directory.{directory_at}
 use Rattle.directory.specs.Good.{GoodDirectory}
@@ -33,4 +33,4 @@ pub record LeadTold (r : Rules) (image : List ℕ) (d : Directory) (i : ℕ) : T
   pub refused_all : (number : ℕ) (carried : Carried) → WhyFault r image d i number carried → led_to r image d i ≡ refused number carried
 
 abbrev pub LeadsTold : Type 0
-LeadsTold = (r : Rules) (image : List ℕ) (d : Directory) (i : ℕ) → r.window ≤ four_gi_b → LeadTold r image d i
+LeadsTold = (r : Rules) (image : List ℕ) (d : Directory) (i : ℕ) → r.window ≤ four_gib → LeadTold r image d i

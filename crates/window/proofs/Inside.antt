@@ -8,7 +8,7 @@ use borrow.Author.Tests.{leb-true, leb-false, le-leb}
 use Rattle.reply.specs.Reply.{Carried, given, refused}
 use Rattle.reply.proofs.ReplyLaws.{past, passed, clash}
 use Rattle.window.specs.declared.Offset.{Offset}
-use Rattle.window.specs.Window.{four_gi_b, window_start, offset_in}
+use Rattle.window.specs.Window.{four_gib, window_start, offset_in}
 use Rattle.window.specs.Inside.{Shown, WindowsAccepted}
 
 -- what the checks say of an address whose offset is given
@@ -31,7 +31,7 @@ below-window window a number carried h e = by (leb (window_start window) a) refl
     by true q = clash (sym e ∙ offset-given window a (a - window_start window) (leb-true _ _ q) h refl)
     by false q = leb-false _ _ q
 
-module _ (window : ℕ) (fits : window ≤ four_gi_b) where
+module _ (window : ℕ) (fits : window ≤ four_gib) where
   pub offset-shown : (a : ℕ) (o : Offset) → offset_in window a ≡ given o → Shown window a o.0
   offset-shown a o e = let f = offset-fact window a o e in record { inside = omega (arith, f.0, f.1, f.2); counted = omega (arith, f.0, f.2) }
 

@@ -2,13 +2,13 @@
 use Rattle.std.specs.Prelude.{ℕ, ◌+◌, ◌<◌, ◌≤◌, ◌≡◌, List, length}
 use Rattle.reply.specs.Reply.{given}
 use Rattle.window.specs.declared.Offset.{Offset}
-use Rattle.window.specs.Window.{four_gi_b, offset_in}
+use Rattle.window.specs.Window.{four_gib, offset_in}
 use Rattle.window.specs.Length.{longest}
 
 -- the byte at offset o of a window of so many bytes stands at address a, and the window ends at 4 GiB
 pub record Shown (window a o : ℕ) : Type 0 where
   pub inside : o < window
-  pub counted : a + window ≡ four_gi_b + o
+  pub counted : a + window ≡ four_gib + o
 
 -- an offset is given exactly where the window shows the address
 pub record WindowAcceptance (window : ℕ) : Type 0 where
@@ -17,7 +17,7 @@ pub record WindowAcceptance (window : ℕ) : Type 0 where
 
 -- so it is for every window that fits below 4 GiB
 abbrev pub WindowsAccepted : Type 0
-WindowsAccepted = (window : ℕ) → window ≤ four_gi_b → WindowAcceptance window
+WindowsAccepted = (window : ℕ) → window ≤ four_gib → WindowAcceptance window
 
 -- an image of 1 to 16,777,216 bytes
 pub record GoodLength (image : List ℕ) : Type 0 where

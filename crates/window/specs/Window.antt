@@ -6,12 +6,12 @@ use Rattle.window.specs.declared.OffsetAnswer.{OffsetAnswer}
 use Rattle.window.specs.declared.OffsetAnswer.TheVariants as offset_answer
 
 -- where every window ends
-abbrev pub four_gi_b : ℕ
-four_gi_b = 0x1_0000_0000
+abbrev pub four_gib : ℕ
+four_gib = 0x1_0000_0000
 
 -- where a window of so many bytes begins; an image is shown through a window of its own length
 abbrev pub window_start : (window : ℕ) → ℕ
-window_start window = four_gi_b - window
+window_start window = four_gib - window
 
 -- the window of every image before request 02: the 16,777,216 bytes below 4 GiB, 0xFF000000 to 0xFFFFFFFF
 abbrev pub base_window : ℕ

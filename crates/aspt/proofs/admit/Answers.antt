@@ -2,7 +2,6 @@ use Rattle.aspt.proofs.Checks.{space-by}
 use Rattle.aspt.specs.Calls.{admit_of}
 use mathlib.Core.Bool.{true, false}
 use mathlib.Core.Path.{sym, ◌∙◌}
-use borrow.Author.Rules.{rules}
 use Rattle.aspt.proofs.admit.Goals as goal
 
 pub returns-then-space_fits : goal.returns-then-space_fits

@@ -3,7 +3,6 @@ use mathlib.Core.Path.{◌≡◌, refl, sym, ◌∙◌}
 use mathlib.Core.Bool.{Bool, true, false, ◌&&◌}
 use Prim.Native.Nat.{ℕ, ◌+◌, ◌*◌, ◌%◌, ◌^◌}
 use lib.Dec.{eqb, leb}
-use borrow.Author.Rules.{rules}
 use Rattle.aspt.proofs.header_checks.Goals as goal
 
 -- the test of the register space, at what was read

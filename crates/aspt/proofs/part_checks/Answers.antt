@@ -1,6 +1,5 @@
 use Rattle.aspt.proofs.Checks.{part_by, holds, fails}
 use mathlib.Core.Path.{sym, refl, ◌∙◌}
-use borrow.Author.Rules.{rules}
 use Rattle.aspt.proofs.part_checks.Goals as goal
 
 pub returns-then-u16_at-ne-LENGTH : goal.returns-then-u16_at-ne-LENGTH

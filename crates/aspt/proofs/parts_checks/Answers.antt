@@ -1,10 +1,8 @@
-use borrow.Author.Rules.{rules}
-use mathlib.Core.Path.{◌≡◌, refl, ◌∙◌}
-use Prim.Native.Nat.{◌-◌, ◌≤◌}
+use mathlib.Core.Path.{refl, ◌∙◌}
 use Rattle.reply.proofs.ReplyLaws.{then-told}
 use Rattle.aspt.specs.Calls.{told_check}
 use native.Mathlib.Omega.{arith}
-use Rattle.aspt.proofs.Checks.{parts_from, parts_all, parts-step, parts-end}
+use Rattle.aspt.proofs.Checks.{parts_all, parts-step, parts-end}
 use Rattle.aspt.proofs.parts_checks.Goals as goal
 
 pub loop-i-init : goal.loop-i-init

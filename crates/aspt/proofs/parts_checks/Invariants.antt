@@ -1,10 +1,6 @@
-use borrow.Author.Rules.{rules}
-use mathlib.Core.Path.{◌≡◌, refl, ◌∙◌}
+use mathlib.Core.Path.{◌≡◌}
 use Prim.Native.Nat.{◌-◌, ◌≤◌}
-use Rattle.reply.proofs.ReplyLaws.{then-told}
-use Rattle.aspt.specs.Calls.{told_check}
-use native.Mathlib.Omega.{arith}
-use Rattle.aspt.proofs.Checks.{parts_from, parts_all, parts-step, parts-end}
+use Rattle.aspt.proofs.Checks.{parts_from}
 use Rattle.aspt.proofs.parts_checks.Given as goal
 
 abbrev pub invariant-loop-i : goal.invariant-loop-i

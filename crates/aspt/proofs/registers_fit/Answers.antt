@@ -1,7 +1,6 @@
 use Rattle.aspt.specs.Rules.{registers_fit}
 use mathlib.Core.Path.{sym, ◌∙◌}
 use borrow.Author.Tests.{eq-eqb, ne_eqb}
-use borrow.Author.Rules.{rules}
 use Rattle.aspt.proofs.registers_fit.Goals as goal
 
 pub returns-then-st-eq-ACPI : goal.returns-then-st-eq-ACPI

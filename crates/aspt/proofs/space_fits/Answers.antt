@@ -1,6 +1,5 @@
 use Rattle.aspt.proofs.Checks.{in-pages}
 use borrow.Author.Tests.{ne_eqb}
-use borrow.Author.Rules.{rules}
 use Rattle.aspt.proofs.space_fits.Goals as goal
 
 pub returns-then-base-eq0 : goal.returns-then-base-eq0

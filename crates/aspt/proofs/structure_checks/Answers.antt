@@ -1,6 +1,5 @@
 use Rattle.aspt.proofs.Checks.{by_number}
 use mathlib.Core.Path.{sym, refl, ◌∙◌}
-use borrow.Author.Rules.{rules}
 use Rattle.aspt.proofs.structure_checks.Goals as goal
 
 pub returns-then-registers_fit : goal.returns-then-registers_fit

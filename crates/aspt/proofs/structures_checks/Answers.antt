@@ -2,7 +2,6 @@ use Rattle.aspt.proofs.Checks.{structure-then, from-none}
 use Rattle.aspt.specs.Calls.{told_check}
 use Rattle.reply.proofs.ReplyLaws.{then-told}
 use mathlib.Core.Path.{◌∙◌}
-use borrow.Author.Rules.{rules}
 use Rattle.aspt.proofs.structures_checks.Goals as goal
 
 pub returns-in-Refused : goal.returns-in-Refused

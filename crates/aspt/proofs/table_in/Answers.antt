@@ -1,6 +1,5 @@
 use Rattle.aspt.specs.Bytes.{table_with}
 use mathlib.Core.Path.{◌∙◌}
-use borrow.Author.Rules.{rules}
 use Rattle.aspt.proofs.table_in.Goals as goal
 
 pub returns : goal.returns

@@ -3,7 +3,6 @@ use Rattle.aspt.proofs.Checks.{header-then, structures-then}
 use Rattle.aspt.specs.Calls.{told_check, table_of}
 use Rattle.reply.proofs.ReplyLaws.{then-told}
 use mathlib.Core.Path.{ap, ◌∙◌}
-use borrow.Author.Rules.{rules}
 use Rattle.aspt.proofs.table_of.Goals as goal
 
 pub returns-in-Refused : goal.returns-in-Refused

@@ -1,4 +1,3 @@
-use borrow.Author.Rules.{rules}
 use Rattle.aspt.proofs.table_with.Goals as goal
 
 pub returns : goal.returns

@@ -5,7 +5,6 @@ use Rattle.aspt.specs.declared.Structure.{Structure}
 use Rattle.le.specs.Le.{bytes_of}
 use Prim.Native.Nat.{ℕ, ◌-◌, ◌%◌}
 use mathlib.Core.Path.{ap, ◌∙◌}
-use borrow.Author.Rules.{rules}
 use Rattle.aspt_build.proofs.checksum.Goals as goal
 
 pub returns : goal.returns

@@ -4,7 +4,6 @@ use Rattle.aspt_build.specs.Write.{maker_fields}
 use Rattle.le.specs.Le.{le_bytes, bytes_of}
 use native.Mathlib.Omega.{arith}
 use mathlib.Core.Path.{◌∙◌}
-use borrow.Author.Rules.{rules}
 use Rattle.aspt_build.proofs.put_maker.Goals as goal
 
 pub returns : goal.returns

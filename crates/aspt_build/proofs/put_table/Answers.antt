@@ -6,7 +6,6 @@ use borrow.Rule.Slice.PartMut.{put_mid}
 use Prim.Native.Nat.{ℕ}
 use mathlib.Core.List.{List}
 use mathlib.Core.Path.{ap, ◌∙◌}
-use borrow.Author.Rules.{rules}
 use Rattle.aspt_build.proofs.put_table.Goals as goal
 
 pub returns : goal.returns

@@ -5,7 +5,6 @@ use Rattle.reply.proofs.ReplyLaws.{passed, failed, then-told}
 use Rattle.reply.specs.Reply.{alone}
 use borrow.Author.Tests.{le-leb, lt-leb}
 use mathlib.Core.Path.{sym, ap, ◌∙◌}
-use borrow.Author.Rules.{rules}
 use Rattle.aspt_build.proofs.write.Goals as goal
 
 pub returns-then-buf-lt-LENGTH : goal.returns-then-buf-lt-LENGTH

@@ -3,7 +3,6 @@ use lib.ListN.{length}
 use Rattle.reply.specs.Reply.{given}
 use Rattle.guids.specs.Table.{entries_before, told_length}
 use Rattle.guids.proofs.Walk.{given-too, refused-too}
-use borrow.Author.Rules.{rules}
 use Rattle.guids.proofs.checked_match.Goals as goal
 
 pub returns-in-Given : goal.returns-in-Given

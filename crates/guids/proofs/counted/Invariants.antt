@@ -1,12 +1,9 @@
-use borrow.Author.Rules.{rules}
-use mathlib.Core.Path.{◌≡◌, sym, ap, ◌∙◌}
+use mathlib.Core.Path.{◌≡◌}
 use Prim.Native.Nat.{◌+◌, ◌≤◌}
-use native.Mathlib.Nat.{add-zero}
-use native.Mathlib.Omega.{arith}
 use lib.ListN.{length}
 use Rattle.reply.specs.Reply.{given, then}
-use Rattle.guids.specs.Table.{length_before, entries_before, told_length}
-use Rattle.guids.proofs.Walk.{length-facts, seen_all, seen-refused, seen_one, count_from, count-start}
+use Rattle.guids.specs.Table.{entries_before}
+use Rattle.guids.proofs.Walk.{count_from}
 use Rattle.guids.proofs.counted.Given as goal
 
 abbrev pub invariant-loop-left : goal.invariant-loop-left

@@ -1,7 +1,6 @@
 use mathlib.Core.Path.{sym, ap, ◌∙◌}
 use Rattle.guids.specs.Table.{pick_in, told_totals}
 use Rattle.guids.proofs.Walk.{table-refused}
-use borrow.Author.Rules.{rules}
 use Rattle.guids.proofs.entry.Goals as goal
 
 pub entry_in-requires : goal.entry_in-requires

@@ -1,5 +1,4 @@
 use Prim.Native.Nat.{◌-◌}
-use borrow.Author.Rules.{rules}
 use Rattle.guids.proofs.entry_before.Goals as goal
 
 pub returns : goal.returns

@@ -1,6 +1,4 @@
-use borrow.Author.Rules.{rules}
 use mathlib.Core.Path.{◌≡◌, refl, ap, ◌∙◌}
-use Prim.Native.Nat.{◌-◌, ◌≤◌}
 use native.Mathlib.Omega.{arith}
 use Rattle.guids.proofs.Walk.{end_of, Good, good-table, pick-none, pick_some, entry-is, next-end, standing-at}
 use Rattle.guids.proofs.entry_in.Goals as goal

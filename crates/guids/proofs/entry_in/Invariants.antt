@@ -1,8 +1,6 @@
-use borrow.Author.Rules.{rules}
-use mathlib.Core.Path.{◌≡◌, refl, ap, ◌∙◌}
+use mathlib.Core.Path.{◌≡◌}
 use Prim.Native.Nat.{◌-◌, ◌≤◌}
-use native.Mathlib.Omega.{arith}
-use Rattle.guids.proofs.Walk.{end_of, Good, good-table, pick-none, pick_some, entry-is, next-end, standing-at}
+use Rattle.guids.proofs.Walk.{end_of}
 use Rattle.guids.proofs.entry_in.Given as goal
 
 abbrev pub invariant-loop-before : goal.invariant-loop-before

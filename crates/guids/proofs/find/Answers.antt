@@ -2,7 +2,6 @@ use mathlib.Core.Path.{sym, ap, ◌∙◌}
 use Rattle.reply.specs.Reply.{then}
 use Rattle.reply.proofs.ReplyLaws.{then-told}
 use Rattle.guids.specs.Table.{entries_under, find_in, told_length}
-use borrow.Author.Rules.{rules}
 use Rattle.guids.proofs.find.Goals as goal
 
 pub find_under-requires : goal.find_under-requires

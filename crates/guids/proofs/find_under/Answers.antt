@@ -1,10 +1,8 @@
-use borrow.Author.Rules.{rules}
 use mathlib.Core.Path.{◌≡◌, sym, ap, ◌∙◌}
 use Prim.Native.Nat.{◌+◌, ◌≤◌}
 use native.Mathlib.Omega.{arith}
-use lib.ListN.{length}
-use Rattle.reply.specs.Reply.{given, then}
-use Rattle.guids.specs.Table.{length_before, entry_before, entries_before, entries_under, find_in, told_length}
+use Rattle.reply.specs.Reply.{given}
+use Rattle.guids.specs.Table.{length_before, entry_before, entries_under, told_length}
 use Rattle.guids.proofs.Walk.{header-facts, length-facts, seen_all, seen-refused, seen_one, find_from, find-start, find-end, find-here, find-behind}
 use Rattle.guids.proofs.find_under.Goals as goal
 use Rattle.guids.proofs.find_under.Goals.{In-Given}

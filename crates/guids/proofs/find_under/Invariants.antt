@@ -1,11 +1,9 @@
-use borrow.Author.Rules.{rules}
-use mathlib.Core.Path.{◌≡◌, sym, ap, ◌∙◌}
+use mathlib.Core.Path.{◌≡◌}
 use Prim.Native.Nat.{◌+◌, ◌≤◌}
-use native.Mathlib.Omega.{arith}
 use lib.ListN.{length}
-use Rattle.reply.specs.Reply.{given, then}
-use Rattle.guids.specs.Table.{length_before, entry_before, entries_before, entries_under, find_in, told_length}
-use Rattle.guids.proofs.Walk.{header-facts, length-facts, seen_all, seen-refused, seen_one, find_from, find-start, find-end, find-here, find-behind}
+use Rattle.reply.specs.Reply.{then}
+use Rattle.guids.specs.Table.{entries_before, entries_under, find_in}
+use Rattle.guids.proofs.Walk.{find_from}
 use Rattle.guids.proofs.find_under.Given as goal
 
 abbrev pub invariant-loop-left : goal.invariant-loop-left

@@ -4,7 +4,6 @@ use borrow.Author.Tests.{eq-eqb, ne_eqb}
 use Rattle.guids.specs.Table.{guid_at}
 use Rattle.guids.specs.Ending as ending
 use Rattle.guids.proofs.Here.{in_end}
-use borrow.Author.Rules.{rules}
 use Rattle.guids.proofs.has_guid.Goals as goal
 use Rattle.guids.proofs.has_guid.Goals.{After-u64_at}
 

@@ -5,7 +5,6 @@ use lib.ListN.{length}
 use borrow.Author.Tests.{le-leb, lt-leb}
 use Rattle.guids.specs.Table.{guid_at, same_guid, footer, footer_at, total_at, header_of}
 use Rattle.guids.proofs.Walk.{footer-is}
-use borrow.Author.Rules.{rules}
 use Rattle.guids.proofs.header.Goals as goal
 use Rattle.guids.proofs.header.Goals.{After-has_guid}
 

@@ -2,7 +2,6 @@ use mathlib.Core.Path.{◌∙◌}
 use native.Mathlib.Omega.{arith}
 use Rattle.guids.specs.Ending as ending
 use Rattle.guids.proofs.Here.{in_end}
-use borrow.Author.Rules.{rules}
 use Rattle.guids.proofs.length_at.Goals as goal
 
 pub returns : goal.returns

@@ -1,9 +1,7 @@
-use mathlib.Core.Path.{◌≡◌, ◌∙◌}
 use Prim.Native.Nat.{◌-◌}
 use native.Mathlib.Omega.{arith}
 use borrow.Author.Tests.{le-leb, lt-leb}
 use Rattle.guids.specs.Table.{length_at, length_before}
-use borrow.Author.Rules.{rules}
 use Rattle.guids.proofs.length_before.Goals as goal
 
 pub returns-then-left-lt-END : goal.returns-then-left-lt-END

@@ -2,7 +2,6 @@ use mathlib.Core.Path.{sym, ap, ◌∙◌}
 use Rattle.reply.specs.Reply.{then}
 use Rattle.reply.proofs.ReplyLaws.{then-told}
 use Rattle.guids.specs.Table.{entries_under, totals_of, told_length}
-use borrow.Author.Rules.{rules}
 use Rattle.guids.proofs.table.Goals as goal
 
 pub totals_under-requires : goal.totals_under-requires

@@ -4,7 +4,6 @@ use lib.ListN.{length}
 use Rattle.reply.specs.Reply.{given}
 use Rattle.guids.specs.Table.{entries_under, totals_of, told_length}
 use Rattle.guids.proofs.Walk.{header-facts, given-too, refused-too}
-use borrow.Author.Rules.{rules}
 use Rattle.guids.proofs.totals_under.Goals as goal
 
 pub overflow_sub-image : goal.overflow_sub-image

@@ -2,13 +2,11 @@ use mathlib.Core.Path.{sym, ap, ◌∙◌}
 use Prim.Native.Nat.{◌+◌}
 use native.Mathlib.Omega.{arith}
 use lib.ListN.{length}
-use Rattle.reply.specs.Reply.{given}
 use Rattle.reply.proofs.ReplyLaws.{then-told}
 use Rattle.guids.specs.declared.Totals.{Totals}
 use Rattle.guids.specs.Table.{told_totals}
 use Rattle.guids_build.specs.Write.{room_for}
 use Rattle.guids.proofs.Walk.{good-table}
-use borrow.Author.Rules.{rules}
 use Rattle.guids_build.proofs.admit.Goals as goal
 
 pub room_for-requires : goal.room_for-requires

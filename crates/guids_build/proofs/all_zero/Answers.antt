@@ -1,9 +1,5 @@
-use borrow.Author.Rules.{rules}
-use mathlib.Core.Path.{◌≡◌, refl, sym, ◌∙◌}
-use Prim.Native.Nat.{◌-◌, ◌≤◌}
+use mathlib.Core.Path.{refl, sym, ◌∙◌}
 use native.Mathlib.Omega.{arith}
-use lib.ListN.{length, drop}
-use Rattle.guids_build.specs.Write.{all_zero}
 use Rattle.guids_build.proofs.Writing.{zero-step, zero-stop, zero-end}
 use Rattle.guids_build.proofs.all_zero.Goals as goal
 

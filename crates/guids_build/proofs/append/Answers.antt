@@ -1,6 +1,6 @@
 use mathlib.Core.Path.{◌≡◌, ap, ◌∙◌}
 use mathlib.Core.List.{List}
-use Prim.Native.Nat.{ℕ, ◌+◌, ◌-◌}
+use Prim.Native.Nat.{ℕ, ◌+◌}
 use native.Mathlib.Omega.{arith}
 use lib.ListN.{length}
 use Rattle.le.specs.Le.{put_bytes}
@@ -10,7 +10,6 @@ use Rattle.guids.specs.Table.{end_bytes}
 use Rattle.guids.proofs.Here.{length-end}
 use Rattle.guids_build.specs.Write.{begins_at, with_total}
 use Rattle.guids_build.proofs.Writing.{Room, room-facts}
-use borrow.Author.Rules.{rules}
 use Rattle.guids_build.proofs.append.Goals as goal
 use Rattle.guids_build.proofs.append.Goals.{After-put_end-arg-1, Start}
 

@@ -1,7 +1,6 @@
 use mathlib.Core.Path.{sym, ap, ◌∙◌}
 use Rattle.guids.specs.Table.{told_length}
 use Rattle.guids_build.specs.Write.{extended_by}
-use borrow.Author.Rules.{rules}
 use Rattle.guids_build.proofs.extend.Goals as goal
 
 pub append-requires : goal.append-requires

@@ -1,5 +1,4 @@
 use Rattle.guids_build.proofs.Writing.{put-end}
-use borrow.Author.Rules.{rules}
 use Rattle.guids_build.proofs.put_end.Goals as goal
 
 pub returns : goal.returns

@@ -4,7 +4,6 @@ use native.Mathlib.Omega.{arith}
 use lib.ListN.{length, take, drop}
 use borrow.Author.Tests.{le-leb, lt-leb}
 use Rattle.guids_build.specs.Write.{all_zero, begins_at, room_for}
-use borrow.Author.Rules.{rules}
 use Rattle.guids_build.proofs.room_for.Goals as goal
 use Rattle.guids_build.proofs.room_for.Goals.{After-all_zero}
 

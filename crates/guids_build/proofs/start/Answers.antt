@@ -5,7 +5,6 @@ use Rattle.guids.specs.Table.{footer_at, end_bytes}
 use Rattle.guids_build.specs.Write.{started_by}
 use Rattle.guids.proofs.Walk.{footer-is}
 use Rattle.guids_build.proofs.Writing.{start_none, start-some}
-use borrow.Author.Rules.{rules}
 use Rattle.guids_build.proofs.start.Goals as goal
 
 pub returns-then-buf-lt-SHORTEST : goal.returns-then-buf-lt-SHORTEST

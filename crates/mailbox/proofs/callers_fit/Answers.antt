@@ -1,9 +1,6 @@
 use borrow.Author.Rules.{rules}
-use Prim.Native.Nat.{◌≤◌}
 use native.Mathlib.Omega.{arith}
-use mathlib.Core.Path.{◌≡◌, refl}
-use lib.ListN.{take}
-use Rattle.mailbox.specs.Consistent.{caller_fits, all_below}
+use mathlib.Core.Path.{refl}
 use Rattle.mailbox.proofs.ConsistentLaws.{all-step, all-stop, all_end}
 use Rattle.mailbox.proofs.callers_fit.Goals as goal
 

@@ -1,10 +1,7 @@
-use borrow.Author.Rules.{rules}
 use Prim.Native.Nat.{◌≤◌}
-use native.Mathlib.Omega.{arith}
-use mathlib.Core.Path.{◌≡◌, refl}
+use mathlib.Core.Path.{◌≡◌}
 use lib.ListN.{take}
 use Rattle.mailbox.specs.Consistent.{caller_fits, all_below}
-use Rattle.mailbox.proofs.ConsistentLaws.{all-step, all-stop, all_end}
 use Rattle.mailbox.proofs.callers_fit.Given as goal
 
 abbrev pub invariant-loop-caller : goal.invariant-loop-caller

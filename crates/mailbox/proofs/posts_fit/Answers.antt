@@ -1,9 +1,6 @@
 use borrow.Author.Rules.{rules}
-use Prim.Native.Nat.{◌≤◌}
 use native.Mathlib.Omega.{arith}
-use mathlib.Core.Path.{◌≡◌, refl}
-use lib.ListN.{take}
-use Rattle.mailbox.specs.Consistent.{posts_fit}
+use mathlib.Core.Path.{refl}
 use Rattle.mailbox.proofs.ConsistentLaws.{fit-step, fit-stop, fit-end}
 use Rattle.mailbox.proofs.posts_fit.Goals as goal
 

@@ -1,10 +1,7 @@
-use borrow.Author.Rules.{rules}
 use Prim.Native.Nat.{◌≤◌}
-use native.Mathlib.Omega.{arith}
-use mathlib.Core.Path.{◌≡◌, refl}
+use mathlib.Core.Path.{◌≡◌}
 use lib.ListN.{take}
 use Rattle.mailbox.specs.Consistent.{posts_fit}
-use Rattle.mailbox.proofs.ConsistentLaws.{fit-step, fit-stop, fit-end}
 use Rattle.mailbox.proofs.posts_fit.Given as goal
 
 abbrev pub invariant-loop-i : goal.invariant-loop-i

@@ -1,9 +1,5 @@
 use borrow.Author.Rules.{rules}
-use Prim.Native.Nat.{◌≤◌, ◌-◌}
 use native.Mathlib.Omega.{arith}
-use mathlib.Core.Path.{◌≡◌}
-use lib.ListN.{take}
-use Rattle.mailbox.specs.Consistent.{times_in}
 use Rattle.mailbox.proofs.ConsistentLaws.{times_none, times-step, times-end}
 use Rattle.mailbox.proofs.times_in.Goals as goal
 
@@ -20,4 +16,4 @@ pub loop-i-preserved : goal.loop-i-preserved
 loop-i-preserved c = (omega arith, omega arith, search (rules, times-step))
 
 pub returns : goal.returns
-returns c =  record { value = search (rules, times-end); upper_bound = omega arith }
+returns c = record { value = search (rules, times-end); upper_bound = omega arith }

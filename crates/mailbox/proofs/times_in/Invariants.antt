@@ -1,10 +1,7 @@
-use borrow.Author.Rules.{rules}
 use Prim.Native.Nat.{◌≤◌, ◌-◌}
-use native.Mathlib.Omega.{arith}
 use mathlib.Core.Path.{◌≡◌}
 use lib.ListN.{take}
 use Rattle.mailbox.specs.Consistent.{times_in}
-use Rattle.mailbox.proofs.ConsistentLaws.{times_none, times-step, times-end}
 use Rattle.mailbox.proofs.times_in.Given as goal
 
 abbrev pub invariant-loop-i : goal.invariant-loop-i

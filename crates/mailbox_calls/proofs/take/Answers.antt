@@ -1,5 +1,4 @@
 use Rattle.mailbox_calls.proofs.CallLaws.{take-calls}
-use borrow.Author.Rules.{rules}
 use Rattle.mailbox_calls.proofs.take.Goals as goal
 
 pub returns-then-caller-gt7 : goal.returns-then-caller-gt7

@@ -1,5 +1,4 @@
 use Rattle.mailbox_calls.proofs.CallLaws.{taken-cases}
-use borrow.Author.Rules.{rules}
 use Rattle.mailbox_calls.proofs.taken.Goals as goal
 
 pub returns-in-Free : goal.returns-in-Free

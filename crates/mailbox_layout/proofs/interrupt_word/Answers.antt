@@ -1,5 +1,4 @@
 use Rattle.mailbox_layout.proofs.LayoutLaws.{interrupt-word-cases}
-use borrow.Author.Rules.{rules}
 use Rattle.mailbox_layout.proofs.interrupt_word.Goals as goal
 
 pub returns-in-Absent : goal.returns-in-Absent

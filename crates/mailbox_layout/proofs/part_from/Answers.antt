@@ -1,5 +1,4 @@
 use Rattle.mailbox_layout.proofs.LayoutLaws.{part-cases}
-use borrow.Author.Rules.{rules}
 use Rattle.mailbox_layout.proofs.part_from.Goals as goal
 
 pub returns-then-word-eq0 : goal.returns-then-word-eq0

@@ -1,5 +1,4 @@
 use Rattle.mailbox_layout.proofs.LayoutLaws.{part-word-cases}
-use borrow.Author.Rules.{rules}
 use Rattle.mailbox_layout.proofs.part_word.Goals as goal
 
 pub returns-in-Held : goal.returns-in-Held

@@ -1,5 +1,4 @@
 use Rattle.mailbox_layout.proofs.LayoutLaws.{phase-cases}
-use borrow.Author.Rules.{rules}
 use Rattle.mailbox_layout.proofs.phase_from.Goals as goal
 
 pub returns-then-phase-eq0 : goal.returns-then-phase-eq0

@@ -1,5 +1,4 @@
 use Rattle.mailbox_layout.proofs.LayoutLaws.{place-cases}
-use borrow.Author.Rules.{rules}
 use Rattle.mailbox_layout.proofs.place_from.Goals as goal
 
 pub returns-then-tag-eq0 : goal.returns-then-tag-eq0

@@ -1,5 +1,4 @@
 use Rattle.mailbox_layout.proofs.LayoutLaws.{place-word-cases}
-use borrow.Author.Rules.{rules}
 use Rattle.mailbox_layout.proofs.place_word.Goals as goal
 
 pub returns-in-Ready : goal.returns-in-Ready

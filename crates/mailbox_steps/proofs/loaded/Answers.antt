@@ -1,5 +1,4 @@
 use Rattle.mailbox_calls.proofs.CallLaws.{load-cases}
-use borrow.Author.Rules.{rules}
 use Rattle.mailbox_steps.proofs.loaded.Goals as goal
 
 pub returns-then-m-eq0 : goal.returns-then-m-eq0

@@ -1,5 +1,4 @@
 use Rattle.mailbox.proofs.LineLaws.{shift_is}
-use borrow.Author.Rules.{rules}
 use Rattle.mailbox_steps.proofs.shifted.Goals as goal
 
 pub returns : goal.returns

@@ -1,5 +1,4 @@
 use Rattle.mailbox_calls.proofs.CallLaws.{turn-calls}
-use borrow.Author.Rules.{rules}
 use Rattle.mailbox_steps.proofs.turn.Goals as goal
 
 pub returns-then-consistent : goal.returns-then-consistent

@@ -1,5 +1,4 @@
 use Rattle.mailbox_calls.proofs.CallLaws.{turn-cases}
-use borrow.Author.Rules.{rules}
 use Rattle.mailbox_steps.proofs.turned.Goals as goal
 
 pub returns-in-Idle : goal.returns-in-Idle

@@ -1,6 +1,5 @@
 use borrow.Author.Tests.{le-leb, lt-leb, eq-eqb, ne_eqb}
 use Rattle.repeats.specs.Repeats.{flash_repeats}
-use borrow.Author.Rules.{rules}
 use Rattle.repeats.proofs.repeated.Goals as goal
 
 pub returns-then-level-lt1 : goal.returns-then-level-lt1

@@ -1,10 +1,9 @@
-use mathlib.Core.Path.{◌≡◌, sym, ap, ◌∙◌}
+use mathlib.Core.Path.{ap, ◌∙◌}
 use Rattle.reply.proofs.ReplyLaws.{then-told}
 use Rattle.directory.specs.declared.Kind.{Kind}
 use Rattle.entries.specs.Entry.{lead_in, told_lead}
 use Rattle.efs.specs.Rules.{rules_of}
 use Rattle.repeats.specs.Repeats.{repeats_led}
-use borrow.Author.Rules.{rules}
 use Rattle.repeats.proofs.repeats_below.Goals as goal
 
 pub returns-in-Given : goal.returns-in-Given

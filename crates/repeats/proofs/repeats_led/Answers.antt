@@ -9,7 +9,6 @@ use Rattle.directory.specs.declared.Kind.{Kind}
 use Rattle.entries.specs.Part.{leads_to}
 use Rattle.efs.specs.Rules.{rules_of}
 use Rattle.repeats.specs.Repeats.{repeats_led}
-use borrow.Author.Rules.{rules}
 use Rattle.repeats.proofs.repeats_led.Goals as goal
 use Rattle.repeats.proofs.repeats_led.Goals.{After-leads_to}
 

@@ -1,10 +1,9 @@
-use mathlib.Core.Path.{◌≡◌, sym, ap, ◌∙◌}
+use mathlib.Core.Path.{ap, ◌∙◌}
 use Rattle.reply.proofs.ReplyLaws.{then-told}
 use Rattle.directory.specs.Repeat.{repeated_at}
 use Rattle.directory.specs.declared.Kind.{Kind}
 use Rattle.efs.specs.Efs.{told_pointer}
 use Rattle.efs.specs.Rules.{rules_of}
-use borrow.Author.Rules.{rules}
 use Rattle.repeats.proofs.repeats_one.Goals as goal
 
 pub returns-in-Given : goal.returns-in-Given

@@ -1,11 +1,10 @@
-use mathlib.Core.Path.{◌≡◌, sym, ap, ◌∙◌}
+use mathlib.Core.Path.{sym, ap, ◌∙◌}
 use Rattle.reply.proofs.ReplyLaws.{then-told}
 use Rattle.directory.specs.Directory.{told_directory}
 use Rattle.efs.specs.Rules.{rules_of}
 use Rattle.window.proofs.Length.{allowed-test}
 use Rattle.flash.proofs.Ways.{opened}
 use Rattle.repeats.specs.Repeats.{repeats_below}
-use borrow.Author.Rules.{rules}
 use Rattle.repeats.proofs.repeats_two.Goals as goal
 
 pub repeats_below-requires : goal.repeats_below-requires

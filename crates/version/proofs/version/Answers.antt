@@ -1,7 +1,5 @@
-use mathlib.Core.Path.{◌≡◌, ap}
-use native.Mathlib.Omega.{arith}
+use mathlib.Core.Path.{ap}
 use borrow.Author.Tests.{le-leb, lt-leb, eq-eqb, ne_eqb}
-use borrow.Author.Rules.{rules}
 use Rattle.le.specs.Le.{le_at}
 use Rattle.reply.specs.Reply.{given}
 use Rattle.version.specs.Header.{ps1}

@@ -1,5 +1,4 @@
 use Rattle.mailbox.proofs.ConsistentLaws.{whole-cases}
-use borrow.Author.Rules.{rules}
 use Rattle.mailbox.proofs.Mailbox.consistent.Goals as goal
 
 pub returns-then-fits : goal.returns-then-fits

@@ -1,5 +1,4 @@
 use Rattle.mailbox.proofs.LineLaws.{fresh-is}
-use borrow.Author.Rules.{rules}
 use Rattle.mailbox.proofs.Mailbox.fresh.Goals as goal
 
 pub returns : goal.returns

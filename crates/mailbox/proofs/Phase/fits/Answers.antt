@@ -1,5 +1,4 @@
 use Rattle.mailbox.proofs.ConsistentLaws.{fit-cases}
-use borrow.Author.Rules.{rules}
 use Rattle.mailbox.proofs.Phase.fits.Goals as goal
 
 pub returns-in-Idle : goal.returns-in-Idle
