@@ -16,6 +16,8 @@ import sys
 LEMMAS = [
     ("image_lengths/proofs/EndsAlike.antt", "entries_from"),
     ("image_lengths/proofs/EndsAlike.antt", "pointer_in"),
+    ("image_lengths/proofs/EndsAlike.antt", "entry_in"),
+    ("image_lengths/proofs/EndsAlike.antt", "part_in"),
     ("walk/proofs/First.antt", "found_back"),
     ("walk/proofs/Placed.antt", "in_entry"),
     ("guids/proofs/Told.antt", "length_back"),

@@ -197,8 +197,8 @@ module _ (front s : List ℕ) (short : GoodLength s) (allowed : GoodLength (fron
   entry-of : (d : Directory) (i : ℕ) → entry_of psp_kind t (moved_directory n d) i ≡ entry_of psp_kind s d i
   entry-of d i = sym (entry-same psp_kind t (moved_directory n d) i) ∙ ap (λ (x : List ℕ). entry_of psp_kind x (from_start d) i) (rest d.place.0) ∙ entry-same psp_kind s d i
 
-  entry_in : (d : Directory) (i : ℕ) → entry_in psp_kind t (moved_directory n d) i ≡ entry_in psp_kind s d i
-  entry_in d i = ap (λ (e : Entry). guard (ltb i d.total) 8 (given e)) (entry-of d i)
+  entry_in_lem : (d : Directory) (i : ℕ) → entry_in psp_kind t (moved_directory n d) i ≡ entry_in psp_kind s d i
+  entry_in_lem d i = ap (λ (e : Entry). guard (ltb i d.total) 8 (given e)) (entry-of d i)
 
   lead-in : (d : Directory) → lead_in psp_kind t (moved_directory n d) ≡ lead_in psp_kind s d
   lead-in d =
@@ -230,8 +230,8 @@ module _ (front s : List ℕ) (short : GoodLength s) (allowed : GoodLength (fron
       let q = leads-to o e p.0 m no-offset (met-given _ (leads_to (length s) s o e) p.1) in
       ap (λ (x : Reply Offset). then (met (in_entry above.level i (n + o)) x) (λ p. directory_at psp_kind 512 2 t p.0)) q ∙ directory-at 2 p.0.0 d p.2
 
-  part_in : (d : Directory) (i : ℕ) (p : Part) → NoOffset (entry_of psp_kind s d i) → part_in psp_kind (length s) s d i ≡ given p → part_in psp_kind (length t) t (moved_directory n d) i ≡ given (moved_part n p)
-  part_in d i p no-offset h =
+  part_in_lem : (d : Directory) (i : ℕ) (p : Part) → NoOffset (entry_of psp_kind s d i) → part_in psp_kind (length s) s d i ≡ given p → part_in psp_kind (length t) t (moved_directory n d) i ≡ given (moved_part n p)
+  part_in_lem d i p no-offset h =
       let f = (parts-accepted psp_kind (length s) s d i p (fits s short)).only h in
       let l = long in
       let good : GoodPart psp_kind (length t) t (n + d.place.0) (entry_of psp_kind s d i) (moved_part n p) = record {
@@ -274,7 +274,7 @@ module _ (front s : List ℕ) (short : GoodLength s) (allowed : GoodLength (fron
 
     entry-call : (level : ℕ) (d : Directory) → flash_directory (rules_of s) level s ≡ given d → (i : ℕ) → flash_entry (rules_of t) level t i ≡ flash_entry (rules_of s) level s i
     entry-call level d h i =
-        ap (λ (x : Reply Directory). then x (λ d. entry_in psp_kind t d i)) (directory-call level d h) ∙ entry_in d i ∙ sym (ap (λ (x : Reply Directory). then x (λ d. entry_in psp_kind s d i)) h)
+        ap (λ (x : Reply Directory). then x (λ d. entry_in psp_kind t d i)) (directory-call level d h) ∙ entry_in_lem d i ∙ sym (ap (λ (x : Reply Directory). then x (λ d. entry_in psp_kind s d i)) h)
 
     find-call : (level : ℕ) (d : Directory) → flash_directory (rules_of s) level s ≡ given d → (class sub : ℕ) → flash_find (rules_of t) level t class sub ≡ flash_find (rules_of s) level s class sub
     find-call level d h class sub =
@@ -288,7 +288,7 @@ module _ (front s : List ℕ) (short : GoodLength s) (allowed : GoodLength (fron
         let is : entry_in psp_kind s u.0 i ≡ given e = sym (ap (λ (x : Reply Directory). then x (λ d. entry_in psp_kind s d i)) u.1) ∙ a in
         let same = only-entry psp_kind s u.0 i e is in
         ap (λ (x : Reply Directory). then x (λ d. part_in psp_kind (length t) t d i)) (directory-call level u.0 u.1)
-        ∙ part_in u.0 i p (subst NoOffset (sym same.1) no-offset) u.2
+        ∙ part_in_lem u.0 i p (subst NoOffset (sym same.1) no-offset) u.2
 
   -- ---- the walk through the whole image
   abbrev moved_step : Step → Step
