@@ -11,7 +11,6 @@ use Rattle.flash.specs.Flash.{flash_directory}
 use Rattle.flash.proofs.Ways.{opened-small}
 use Rattle.walk.specs.Walk.{walk_of}
 use Rattle.all_directories.specs.AllDirectories.{Entered, entered_in, lay_directories}
-use borrow.Author.Rules.{rules}
 use Rattle.all_directories.proofs.directories.Goals as goal
 use Rattle.all_directories.proofs.directories.Goals.{In-Given}
 

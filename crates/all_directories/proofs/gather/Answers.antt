@@ -1,10 +1,9 @@
 use borrow.Author.Rules.{rules}
 use native.Mathlib.Omega.{arith}
-use mathlib.Core.Path.{◌≡◌, sym, ap, ◌∙◌}
-use Prim.Native.Nat.{◌-◌, ◌+◌, ◌≤◌}
-use lib.ListN.{length}
-use Rattle.all_directories.specs.Gathered.{told_gathered, words_of}
-use Rattle.all_directories.proofs.Reached.{Reached, reached-start, reached-more, reached-fault, reached-end}
+use mathlib.Core.Path.{sym, ap, ◌∙◌}
+use Prim.Native.Nat.{◌-◌}
+use Rattle.all_directories.specs.Gathered.{told_gathered}
+use Rattle.all_directories.proofs.Reached.{reached-start, reached-more, reached-fault, reached-end}
 use Rattle.all_directories.proofs.gather.Goals as goal
 
 pub loop-i-init : goal.loop-i-init

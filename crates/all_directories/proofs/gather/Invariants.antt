@@ -1,10 +1,8 @@
 use borrow.Author.Rules.{rules}
-use native.Mathlib.Omega.{arith}
-use mathlib.Core.Path.{◌≡◌, sym, ap, ◌∙◌}
-use Prim.Native.Nat.{◌-◌, ◌+◌, ◌≤◌}
+use mathlib.Core.Path.{◌≡◌}
+use Prim.Native.Nat.{◌-◌}
 use lib.ListN.{length}
-use Rattle.all_directories.specs.Gathered.{told_gathered, words_of}
-use Rattle.all_directories.proofs.Reached.{Reached, reached-start, reached-more, reached-fault, reached-end}
+use Rattle.all_directories.proofs.Reached.{Reached}
 use Rattle.all_directories.proofs.gather.Given as goal
 
 abbrev pub invariant-loop-i : goal.invariant-loop-i

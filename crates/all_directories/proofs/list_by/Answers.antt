@@ -13,7 +13,6 @@ use Rattle.all_directories.specs.AllDirectories.{Entered, entered_in, lay_rows, 
 use Rattle.all_directories.specs.Gathered.{words_of, told_gathered}
 use Rattle.all_directories.proofs.Reached.{all-few, counted-all, refused_all}
 use Rattle.all_directories.proofs.Rows.{head-set}
-use borrow.Author.Rules.{rules}
 use Rattle.all_directories.proofs.list_by.Goals as goal
 use Rattle.all_directories.proofs.list_by.Goals.{In-Given}
 

@@ -4,7 +4,6 @@ use mathlib.Core.List.{[], ◌∷◌, ◌++◌}
 use lib.ListN.{length-set, take}
 use Rattle.all_directories.specs.Gathered.{words_of}
 use Rattle.all_directories.proofs.Rows.{row_put}
-use borrow.Author.Rules.{rules}
 use Rattle.all_directories.proofs.put_row.Goals as goal
 
 pub bounds-rows-at-2 : goal.bounds-rows-at-2

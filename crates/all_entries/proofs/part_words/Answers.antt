@@ -2,7 +2,6 @@ use mathlib.Core.Path.{sym, ap}
 use Rattle.entries.specs.Part.{told_part}
 use Rattle.entries.specs.declared.PartAnswer.{PartAnswer}
 use Rattle.all_entries.specs.AllEntries.{lay_part_or}
-use borrow.Author.Rules.{rules}
 use Rattle.all_entries.proofs.part_words.Goals as goal
 
 pub returns-in-Given : goal.returns-in-Given

@@ -8,7 +8,6 @@ use Rattle.efs.specs.Rules.{rules_of}
 use Rattle.flash_words.specs.Images.{lay_directory}
 use Rattle.all_entries.specs.AllEntries.{lay_entries}
 use Rattle.all_entries.proofs.Rows.{entries-long, entries-number, entries-words}
-use borrow.Author.Rules.{rules}
 use Rattle.all_entries.proofs.put_entries.Goals as goal
 
 pub returns-then-words-total : goal.returns-then-words-total

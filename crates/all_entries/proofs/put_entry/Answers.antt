@@ -1,6 +1,5 @@
 use native.Mathlib.Omega.{arith}
 use Rattle.all_entries.proofs.Rows.{entry-from, row_put}
-use borrow.Author.Rules.{rules}
 use Rattle.all_entries.proofs.put_entry.Goals as goal
 
 pub slice_bounds-fields_of-end : goal.slice_bounds-fields_of-end

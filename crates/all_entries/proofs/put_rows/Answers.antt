@@ -1,10 +1,8 @@
 use mathlib.Core.Path.{refl, ap, ◌∙◌}
 use Rattle.all_entries.proofs.Rows.{filled_none, filled_more}
 use borrow.Author.Rules.{rules}
-use mathlib.Core.Path.{◌≡◌}
-use Prim.Native.Nat.{◌≤◌, ◌-◌}
+use Prim.Native.Nat.{◌-◌}
 use native.Mathlib.Omega.{arith}
-use lib.ListN.{length}
 use Rattle.efs.specs.Rules.{rules_of}
 use Rattle.all_entries.proofs.Rows.{filled}
 use Rattle.all_entries.proofs.put_rows.Goals as goal

@@ -1,6 +1,5 @@
 use Rattle.entries.specs.Part.{told_part}
 use Rattle.all_entries.proofs.Rows.{row_laid}
-use borrow.Author.Rules.{rules}
 use Rattle.all_entries.proofs.row_of.Goals as goal
 
 pub returns : goal.returns

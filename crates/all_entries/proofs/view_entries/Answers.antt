@@ -7,7 +7,6 @@ use Rattle.place.specs.Place.{check_at}
 use Rattle.place.proofs.View.{nearest-place}
 use Rattle.all_entries.specs.AllEntries.{lay_entries}
 use Rattle.all_entries.proofs.Rows.{in_image_lem}
-use borrow.Author.Rules.{rules}
 use Rattle.all_entries.proofs.view_entries.Goals as goal
 use Rattle.all_entries.proofs.view_entries.Goals.{After-check_from}
 

@@ -1,5 +1,4 @@
 use borrow.Author.Rules.{rules}
-use borrow.Author.Rules.{rules}
 use Rattle.aspt.specs.Calls.{read_of}
 use Rattle.reply.proofs.ReplyLaws.{passed, failed}
 use Rattle.reply.specs.Reply.{alone}

@@ -5,7 +5,6 @@ use Rattle.lent.specs.Lent.{number_for, words_for}
 use Prim.Native.Nat.{ℕ}
 use mathlib.Core.List.{List}
 use mathlib.Core.Path.{sym, ap, ◌∙◌}
-use borrow.Author.Rules.{rules}
 use Rattle.aspt_words.proofs.read.Goals as goal
 
 pub returns-in-Given : goal.returns-in-Given

@@ -1,4 +1,3 @@
-use borrow.Author.Rules.{rules}
 use Rattle.aspt_words.proofs.structure_from.Goals as goal
 
 pub returns : goal.returns

@@ -1,5 +1,4 @@
 use Rattle.aspt_words.specs.AsptTable.{table_from}
-use borrow.Author.Rules.{rules}
 use Rattle.aspt_words.proofs.table_from.Goals as goal
 
 pub returns : goal.returns

@@ -8,7 +8,6 @@ use Rattle.reply.proofs.ReplyLaws.{failed}
 use Rattle.reply.specs.Reply.{alone}
 use borrow.Author.Tests.{lt-leb}
 use mathlib.Core.Path.{sym, ap, ◌∙◌}
-use borrow.Author.Rules.{rules}
 use Rattle.aspt_words.proofs.write.Goals as goal
 
 pub returns-then-words-lt22 : goal.returns-then-words-lt22

@@ -1,4 +1,3 @@
-use borrow.Author.Rules.{rules}
 use mathlib.Core.Path.{sym, ap}
 use Rattle.reply.specs.Reply.{given}
 use Rattle.lent.proofs.Laws.{given-number, given-words}

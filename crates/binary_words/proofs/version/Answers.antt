@@ -2,7 +2,6 @@ use mathlib.Core.Path.{sym, ap, ◌∙◌}
 use Rattle.lent.proofs.Laws.{given-number, given-words, alone-number, alone-words}
 use Rattle.version.specs.Version.{told_version}
 use Rattle.lent.specs.Lent.{lay_number}
-use borrow.Author.Rules.{rules}
 use Rattle.binary_words.proofs.version.Goals as goal
 
 pub returns-in-Given : goal.returns-in-Given

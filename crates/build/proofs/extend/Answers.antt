@@ -1,7 +1,6 @@
 use mathlib.Core.Path.{◌≡◌, sym, ap, ◌∙◌}
 use Prim.Native.Nat.{◌-◌}
 use native.Mathlib.Omega.{arith}
-use borrow.Author.Rules.{rules}
 use Rattle.directory.specs.Directory.{psp_kind, checksum_at}
 use Rattle.build.specs.Write.{extended_by, told_total}
 use Rattle.build.proofs.Accept.{extend-only}

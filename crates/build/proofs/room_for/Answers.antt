@@ -1,4 +1,3 @@
-use borrow.Author.Rules.{rules}
 use Rattle.build.proofs.Cases.{room-cases}
 use Rattle.build.proofs.room_for.Goals as goal
 

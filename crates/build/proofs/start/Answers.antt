@@ -1,5 +1,4 @@
 use mathlib.Core.Path.{ap}
-use borrow.Author.Rules.{rules}
 use Rattle.build.specs.Write.{started_by}
 use Rattle.build.proofs.Cases.{start-below, start-above, start-short, start-room, header-put}
 use Rattle.build.proofs.start.Goals as goal
@@ -14,4 +13,4 @@ pub returns-then-buf-lt-HEADER : goal.returns-then-buf-lt-HEADER
 returns-then-buf-lt-HEADER c = let e = start-short _ c.args.buf.now c.if-level-lt1.false c.if-level-gt2.false c.if-buf-lt-HEADER.true in record { result_value = e; buf_after = ap (started_by _ _) e }
 
 pub returns : goal.returns
-returns c =  record { result_value = search start-room; buf_after = search header-put }
+returns c = record { result_value = search start-room; buf_after = search header-put }

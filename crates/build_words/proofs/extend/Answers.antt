@@ -5,7 +5,6 @@ use Rattle.lent.proofs.Laws.{given-number, given-words, fault-number, fault-word
 use Rattle.build.specs.Write.{told_total, extend_of, extended_by}
 use Rattle.build_words.specs.Writing.{fields_for}
 use Rattle.lent.proofs.Changed.{given-bytes, kept-bytes, no_words, words-none, bytes-none}
-use borrow.Author.Rules.{rules}
 use Rattle.build_words.proofs.extend.Goals as goal
 
 pub returns-then-words-lt1 : goal.returns-then-words-lt1

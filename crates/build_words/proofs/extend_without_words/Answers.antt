@@ -3,7 +3,6 @@ use Rattle.build.specs.Write.{told_total}
 use Rattle.lent.proofs.Laws.{fault-number}
 use Rattle.lent.specs.Lent.{lay_number}
 use Rattle.lent.proofs.Changed.{number-none}
-use borrow.Author.Rules.{rules}
 use Rattle.build_words.proofs.extend_without_words.Goals as goal
 
 pub returns-in-Given : goal.returns-in-Given

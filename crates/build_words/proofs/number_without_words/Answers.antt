@@ -1,7 +1,6 @@
 use mathlib.Core.List.{[]}
 use native.Mathlib.Omega.{arith}
 use Rattle.lent.proofs.Laws.{number-12, number_fits}
-use borrow.Author.Rules.{rules}
 use Rattle.build_words.proofs.number_without_words.Goals as goal
 
 pub returns-in-Alone : goal.returns-in-Alone

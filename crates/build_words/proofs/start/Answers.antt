@@ -1,5 +1,4 @@
 use mathlib.Core.Path.{sym, ap, ◌∙◌}
-use borrow.Author.Rules.{rules}
 use Rattle.lent.specs.Lent.{number_of}
 use Rattle.build.specs.Write.{told_total}
 use Rattle.build_words.proofs.start.Goals as goal

@@ -1,5 +1,4 @@
-use mathlib.Core.Path.{◌≡◌, sym, ap, ◌∙◌}
-use borrow.Author.Rules.{rules}
+use mathlib.Core.Path.{sym, ap, ◌∙◌}
 use Rattle.reply.specs.Reply.{Reply, then}
 use Rattle.directory.specs.Directory.{told_directory}
 use Rattle.directory.specs.declared.Directory.{Directory}

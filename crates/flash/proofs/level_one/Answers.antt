@@ -1,4 +1,4 @@
-use mathlib.Core.Path.{◌≡◌, ◌∙◌}
+use mathlib.Core.Path.{◌∙◌}
 use Rattle.reply.proofs.ReplyLaws.{then-told}
 use Rattle.efs.specs.Efs.{told_pointer}
 use Rattle.directory.specs.Directory.{directory_at}

@@ -1,4 +1,4 @@
-use mathlib.Core.Path.{◌≡◌, ◌∙◌}
+use mathlib.Core.Path.{◌∙◌}
 use borrow.Author.Rules.{rules}
 use Rattle.reply.proofs.ReplyLaws.{then-told}
 use Rattle.entries.specs.Entry.{told_lead}

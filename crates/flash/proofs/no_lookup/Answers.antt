@@ -1,4 +1,4 @@
-use borrow.Author.Tests.{eq-eqb, ne_eqb}
+use borrow.Author.Tests.{ne_eqb}
 use Rattle.flash.proofs.no_lookup.Goals as goal
 
 pub returns-then-why-eq8 : goal.returns-then-why-eq8

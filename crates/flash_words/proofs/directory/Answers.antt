@@ -4,7 +4,6 @@ use Rattle.reply.specs.Reply.{given}
 use Rattle.directory.specs.Directory.{told_directory}
 use Rattle.directory.specs.declared.Directory.{Directory}
 use Rattle.flash_words.specs.Images.{lay_directory}
-use borrow.Author.Rules.{rules}
 use Rattle.flash_words.proofs.directory.Goals as goal
 
 pub returns-in-Given : goal.returns-in-Given

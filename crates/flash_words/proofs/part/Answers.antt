@@ -2,7 +2,6 @@ use mathlib.Core.Path.{sym, ap, ◌∙◌}
 use Rattle.lent.proofs.Laws.{given-number, given-words, fault-number, fault-words}
 use Rattle.entries.specs.Part.{told_part}
 use Rattle.flash_words.specs.Images.{lay_part}
-use borrow.Author.Rules.{rules}
 use Rattle.flash_words.proofs.part.Goals as goal
 
 pub returns-in-Given : goal.returns-in-Given

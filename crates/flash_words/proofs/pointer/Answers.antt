@@ -2,7 +2,6 @@ use mathlib.Core.Path.{sym, ap, ◌∙◌}
 use Rattle.lent.proofs.Laws.{given-number, given-words, alone-number, alone-words}
 use Rattle.efs.specs.Efs.{told_pointer}
 use Rattle.flash_words.specs.Images.{lay_pointer}
-use borrow.Author.Rules.{rules}
 use Rattle.flash_words.proofs.pointer.Goals as goal
 
 pub returns-in-Given : goal.returns-in-Given

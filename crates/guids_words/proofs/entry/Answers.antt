@@ -2,7 +2,6 @@ use mathlib.Core.Path.{sym, ap, ◌∙◌}
 use Rattle.guids.specs.Table.{told_guid_entry}
 use Rattle.lent.proofs.Laws.{given-number, given-words, alone-number, alone-words}
 use Rattle.guids_words.specs.GuidTable.{lay_guid_entry}
-use borrow.Author.Rules.{rules}
 use Rattle.guids_words.proofs.entry.Goals as goal
 
 pub returns-in-Given : goal.returns-in-Given

@@ -6,7 +6,6 @@ use Rattle.guids.specs.Table.{told_length}
 use Rattle.guids_build.specs.Write.{extend_of, extended_by}
 use Rattle.guids_words.specs.GuidTable.{guid_of}
 use Rattle.lent.proofs.Changed.{given-bytes, alone-bytes, no_words, words-none, bytes-none}
-use borrow.Author.Rules.{rules}
 use Rattle.guids_words.proofs.extend.Goals as goal
 
 pub returns-then-words-lt1 : goal.returns-then-words-lt1

@@ -3,7 +3,6 @@ use Rattle.guids.specs.Table.{told_length}
 use Rattle.lent.proofs.Laws.{alone-number}
 use Rattle.lent.specs.Lent.{lay_number}
 use Rattle.lent.proofs.Changed.{number-none}
-use borrow.Author.Rules.{rules}
 use Rattle.guids_words.proofs.extend_without_words.Goals as goal
 
 pub returns-in-Given : goal.returns-in-Given

@@ -1,7 +1,6 @@
 use mathlib.Core.Path.{sym, ap, ◌∙◌}
 use Rattle.lent.specs.Lent.{number_of}
 use Rattle.guids.specs.Table.{told_length}
-use borrow.Author.Rules.{rules}
 use Rattle.guids_words.proofs.start.Goals as goal
 
 pub returns-in-Given : goal.returns-in-Given

@@ -2,7 +2,6 @@ use mathlib.Core.Path.{sym, ap, ◌∙◌}
 use Rattle.lent.proofs.Laws.{given-number, given-words, tested-number, tested-words, fault-number, fault-words}
 use Rattle.entries.specs.Entry.{told_match}
 use Rattle.lookup_words.specs.Lookups.{lay_match}
-use borrow.Author.Rules.{rules}
 use Rattle.lookup_words.proofs.find.Goals as goal
 
 pub returns-in-Given : goal.returns-in-Given

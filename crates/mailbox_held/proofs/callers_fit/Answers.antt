@@ -1,11 +1,7 @@
 use borrow.Author.Rules.{rules}
-use Prim.Native.Nat.{◌≤◌}
 use native.Mathlib.Omega.{arith}
-use mathlib.Core.Path.{◌≡◌, refl}
-use lib.ListN.{take}
-use Rattle.mailbox.specs.Consistent.{caller_fits, all_below}
+use mathlib.Core.Path.{refl}
 use Rattle.mailbox.proofs.ConsistentLaws.{all_end}
-use Rattle.mailbox_layout.specs.Layout.{up_to, post_at, place_at}
 use Rattle.mailbox_held.proofs.FitLaws.{callers-step, callers-stop}
 use Rattle.mailbox_held.proofs.callers_fit.Goals as goal
 

@@ -1,4 +1,3 @@
-use borrow.Author.Rules.{rules}
 use Rattle.mailbox_held.proofs.FitLaws.{not-few, not_line, not-held, all-rules}
 use Rattle.mailbox_held.proofs.consistent.Goals as goal
 

@@ -1,4 +1,3 @@
-use borrow.Author.Rules.{rules}
 use Rattle.mailbox_held.proofs.HeldLaws.{four-all, four-not}
 use Rattle.mailbox_held.proofs.four_zero.Goals as goal
 

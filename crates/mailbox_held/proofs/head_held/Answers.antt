@@ -1,4 +1,3 @@
-use borrow.Author.Rules.{rules}
 use Rattle.mailbox_held.proofs.HeldLaws.{head-all, head-not-phase, head-not-interface, head-not-part1, head-not-part2}
 use Rattle.mailbox_held.proofs.head_held.Goals as goal
 

@@ -1,4 +1,3 @@
-use borrow.Author.Rules.{rules}
 use Rattle.mailbox_held.proofs.HeldLaws.{holds-short, holds-not-head, holds-not-places, holds-all}
 use Rattle.mailbox_held.proofs.held_in.Goals as goal
 

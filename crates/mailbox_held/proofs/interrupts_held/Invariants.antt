@@ -1,10 +1,7 @@
-use borrow.Author.Rules.{rules}
 use Prim.Native.Nat.{◌≤◌, ◌-◌, ◌%◌}
-use native.Mathlib.Omega.{arith}
 use mathlib.Core.Bool.{true}
 use mathlib.Core.Path.{◌≡◌}
 use Rattle.mailbox_held.specs.Held.{held_between}
-use Rattle.mailbox_held.proofs.HeldLaws.{between_none, ids_step, ids-stop, between-end}
 use Rattle.mailbox_held.proofs.interrupts_held.Given as goal
 
 abbrev pub invariant-loop-i : goal.invariant-loop-i

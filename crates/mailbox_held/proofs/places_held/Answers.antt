@@ -1,9 +1,6 @@
 use borrow.Author.Rules.{rules}
-use Prim.Native.Nat.{◌≤◌, ◌-◌}
+use Prim.Native.Nat.{◌-◌}
 use native.Mathlib.Omega.{arith}
-use mathlib.Core.Bool.{true}
-use mathlib.Core.Path.{◌≡◌}
-use Rattle.mailbox_held.specs.Held.{held_between}
 use Rattle.mailbox_held.proofs.HeldLaws.{between_none, places-step, places-stop, between-end}
 use Rattle.mailbox_held.proofs.places_held.Goals as goal
 

@@ -1,11 +1,7 @@
 use borrow.Author.Rules.{rules}
-use Prim.Native.Nat.{◌≤◌}
 use native.Mathlib.Omega.{arith}
-use mathlib.Core.Path.{◌≡◌, refl}
-use lib.ListN.{take}
-use Rattle.mailbox.specs.Consistent.{posts_fit}
+use mathlib.Core.Path.{refl}
 use Rattle.mailbox.proofs.ConsistentLaws.{fit-end}
-use Rattle.mailbox_layout.specs.Layout.{up_to, post_at}
 use Rattle.mailbox_held.proofs.FitLaws.{posts-step, posts-stop}
 use Rattle.mailbox_held.proofs.posts_fit.Goals as goal
 

@@ -1,12 +1,8 @@
-use borrow.Author.Rules.{rules}
 use Prim.Native.Nat.{◌≤◌}
-use native.Mathlib.Omega.{arith}
-use mathlib.Core.Path.{◌≡◌, refl}
+use mathlib.Core.Path.{◌≡◌}
 use lib.ListN.{take}
 use Rattle.mailbox.specs.Consistent.{posts_fit}
-use Rattle.mailbox.proofs.ConsistentLaws.{fit-end}
 use Rattle.mailbox_layout.specs.Layout.{up_to, post_at}
-use Rattle.mailbox_held.proofs.FitLaws.{posts-step, posts-stop}
 use Rattle.mailbox_held.proofs.posts_fit.Given as goal
 
 abbrev pub invariant-loop-i : goal.invariant-loop-i

@@ -1,4 +1,3 @@
-use borrow.Author.Rules.{rules}
 use mathlib.Core.Path.{sym, ◌∙◌}
 use Rattle.mailbox_held.proofs.HeldLaws.{held-long}
 use Rattle.mailbox_held.proofs.FitLaws.{serves-so, serves-not}

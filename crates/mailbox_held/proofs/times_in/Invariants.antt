@@ -1,12 +1,8 @@
-use borrow.Author.Rules.{rules}
 use Prim.Native.Nat.{◌≤◌, ◌-◌}
-use native.Mathlib.Omega.{arith}
 use mathlib.Core.Path.{◌≡◌}
 use lib.ListN.{take}
 use Rattle.mailbox.specs.Consistent.{times_in}
-use Rattle.mailbox.proofs.ConsistentLaws.{times_none, times-end}
 use Rattle.mailbox_layout.specs.Layout.{up_to, post_at}
-use Rattle.mailbox_held.proofs.FitLaws.{line_step}
 use Rattle.mailbox_held.proofs.times_in.Given as goal
 
 abbrev pub invariant-loop-i : goal.invariant-loop-i

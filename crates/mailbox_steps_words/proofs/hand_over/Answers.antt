@@ -1,7 +1,6 @@
 use native.Mathlib.Omega.{arith}
 use lib.ListN.{length-set}
 use Rattle.mailbox_steps_words.proofs.MovedLaws.{hand-over-words}
-use borrow.Author.Rules.{rules}
 use Rattle.mailbox_steps_words.proofs.hand_over.Goals as goal
 
 pub bounds-words-1 : goal.bounds-words-1

@@ -4,7 +4,6 @@ use Rattle.mailbox.specs.Machine.{with_oldest}
 use Rattle.mailbox_calls.specs.Calls.{loaded_from, load_of}
 use Rattle.mailbox_layout.specs.Layout.{unpack_of}
 use Rattle.mailbox_words.proofs.CallLaws.{served, served-long, in_words, same-words, step-5, step-12, step-done, load-none, load-some, load-positive}
-use borrow.Author.Rules.{rules}
 use Rattle.mailbox_steps_words.proofs.load.Goals as goal
 
 pub returns-then-values-eq0 : goal.returns-then-values-eq0

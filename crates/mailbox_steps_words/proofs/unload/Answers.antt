@@ -3,7 +3,6 @@ use mathlib.Core.Bool.{true, false}
 use Rattle.mailbox_calls.specs.Calls.{unloaded_from, unload_of}
 use Rattle.mailbox_layout.specs.Layout.{unpack_of}
 use Rattle.mailbox_words.proofs.CallLaws.{served, served-long, in_words, same-words, caller-low, step-5, step-12, step-done}
-use borrow.Author.Rules.{rules}
 use Rattle.mailbox_steps_words.proofs.unload.Goals as goal
 
 pub returns-then-values-eq0 : goal.returns-then-values-eq0

@@ -1,6 +1,5 @@
-use mathlib.Core.Path.{refl, ◌∙◌, ap}
-use Rattle.mailbox_steps_words.proofs.MovedLaws.{in-first, in-second, in-begun, in_moved, advanced-long, less_one, advance-words}
-use borrow.Author.Rules.{rules}
+use mathlib.Core.Path.{refl, ◌∙◌}
+use Rattle.mailbox_steps_words.proofs.MovedLaws.{in-first, in-second, in-begun, in_moved, less_one, advance-words}
 use Rattle.mailbox_steps_words.proofs.with_oldest.Goals as goal
 
 pub bounds-words-1 : goal.bounds-words-1
@@ -72,4 +71,3 @@ returns c = let w = c in
     let p = w in
     let s = p in
     c.move_last_up.ensures ∙ advance-words s.args.words.now s.requires.0 _ _ p.post_from-first.result p.post_from-first.ensures refl w.word.ensures
-

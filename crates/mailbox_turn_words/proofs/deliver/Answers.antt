@@ -1,5 +1,4 @@
 use Rattle.mailbox_turn_words.proofs.RunLaws.{deliver-on, deliver-bits, deliver-none, deliver-set}
-use borrow.Author.Rules.{rules}
 use Rattle.mailbox_turn_words.proofs.deliver.Goals as goal
 
 pub returns-then-words-eq1 : goal.returns-then-words-eq1

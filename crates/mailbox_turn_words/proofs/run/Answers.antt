@@ -1,6 +1,5 @@
 use mathlib.Core.Path.{refl}
 use Rattle.mailbox_turn_words.proofs.RunLaws.{ran-off, ran-query-on, ran-query-off, ran-part1, ran-part2, ran-part3, ran-delivery, ran-other}
-use borrow.Author.Rules.{rules}
 use Rattle.mailbox_turn_words.proofs.run.Goals as goal
 
 pub returns-in-128 : goal.returns-in-128

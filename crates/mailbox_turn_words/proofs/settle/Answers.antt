@@ -4,7 +4,6 @@ use lib.ListN.{length-set}
 use Rattle.firmware.proofs.Laws.{settled-one, settled-two, settled-three, settled-all}
 use Rattle.mailbox_layout.specs.Layout.{firmware_from}
 use Rattle.mailbox_turn_words.proofs.RunLaws.{parts-words, settled-words, saving-words}
-use borrow.Author.Rules.{rules}
 use Rattle.mailbox_turn_words.proofs.settle.Goals as goal
 use Rattle.mailbox_turn_words.proofs.settle.Goals.{in-Held+in-Held-part2+in-Absent-part3, in-Held+in-Absent-part2, in-Absent}
 

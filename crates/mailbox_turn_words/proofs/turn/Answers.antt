@@ -4,7 +4,6 @@ use Rattle.mailbox_calls.specs.Calls.{turned_from, turn_of}
 use Rattle.mailbox_layout.specs.Layout.{unpack_of}
 use Rattle.mailbox_turn_words.proofs.RunLaws.{ran_first, ran-third, turn-words}
 use Rattle.mailbox_words.proofs.CallLaws.{served, served-long, in_words, same-words, step-5, step-12, step-done}
-use borrow.Author.Rules.{rules}
 use Rattle.mailbox_turn_words.proofs.turn.Goals as goal
 
 pub returns-then-values-eq0 : goal.returns-then-values-eq0

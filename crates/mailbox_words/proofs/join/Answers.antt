@@ -1,7 +1,6 @@
 use native.Mathlib.Omega.{arith}
 use lib.ListN.{length-set}
 use Rattle.mailbox_words.proofs.WrittenLaws.{join-words}
-use borrow.Author.Rules.{rules}
 use Rattle.mailbox_words.proofs.join.Goals as goal
 
 pub bounds-words-end : goal.bounds-words-end

@@ -2,7 +2,6 @@ use Rattle.mailbox_calls.specs.Calls.{accepted, post_of}
 use Rattle.mailbox_layout.specs.Layout.{unpack_of}
 use Rattle.mailbox_words.specs.Calls.{lay_accepted}
 use Rattle.mailbox_words.proofs.CallLaws.{served, served-long, in-places, state-is, has_room, call-5, call-refused, call-given, post-bad, post-caller, post-command, post-waiting, post-ready, post-free, no_length, no_value}
-use borrow.Author.Rules.{rules}
 use Rattle.mailbox_words.proofs.post.Goals as goal
 
 pub returns-then-caller-gt7 : goal.returns-then-caller-gt7

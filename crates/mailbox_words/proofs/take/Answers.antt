@@ -4,7 +4,6 @@ use Rattle.mailbox_layout.specs.Layout.{unpack_of}
 use Rattle.mailbox_words.specs.Calls.{lay_word}
 use Rattle.mailbox_words.proofs.WrittenLaws.{free-words}
 use Rattle.mailbox_words.proofs.CallLaws.{served, in-places, state-is, call-5, call-refused, call-12, call-given, take-bad, take-caller, take-free, take-waiting, take-ready, short-one, not_none, one_value}
-use borrow.Author.Rules.{rules}
 use Rattle.mailbox_words.proofs.take.Goals as goal
 
 pub returns-then-caller-gt7 : goal.returns-then-caller-gt7

@@ -1,5 +1,4 @@
 use mathlib.Core.Path.{ap, ◌∙◌}
-use borrow.Author.Rules.{rules}
 use Rattle.efs.specs.declared.Rules.{Rules}
 use Rattle.place.specs.Place.{check_at}
 use Rattle.place.proofs.check_at.Goals as goal

@@ -3,7 +3,6 @@ use Prim.Native.Nat.{ℕ, ◌+◌}
 use native.Mathlib.Omega.{arith}
 use Rattle.directory.specs.Directory.{told_directory}
 use Rattle.place.specs.Place.{held_bytes}
-use borrow.Author.Rules.{rules}
 use Rattle.place.proofs.held.Goals as goal
 
 pub returns-in-Given : goal.returns-in-Given

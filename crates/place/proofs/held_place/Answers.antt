@@ -1,7 +1,6 @@
 use mathlib.Core.Path.{sym, ap, ◌∙◌}
 use Rattle.directory.specs.Directory.{told_directory}
 use Rattle.place.specs.Place.{held_place}
-use borrow.Author.Rules.{rules}
 use Rattle.place.proofs.held_place.Goals as goal
 
 pub returns-in-Given : goal.returns-in-Given

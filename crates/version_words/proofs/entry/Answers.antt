@@ -1,5 +1,4 @@
-use mathlib.Core.Path.{◌≡◌, sym, ap, ◌∙◌}
-use mathlib.Core.List.{List}
+use mathlib.Core.Path.{sym, ap, ◌∙◌}
 use Prim.Native.Nat.{ℕ}
 use Rattle.reply.specs.Reply.{Reply}
 use Rattle.lent.specs.Lent.{number_left, words_left, lay_number}
@@ -8,7 +7,6 @@ use Rattle.entries.specs.Part.{told_part}
 use Rattle.efs.specs.Rules.{rules_of}
 use Rattle.flash.specs.Flash.{flash_part}
 use Rattle.version_words.proofs.There.{version-there, version-none}
-use borrow.Author.Rules.{rules}
 use Rattle.version_words.proofs.entry.Goals as goal
 
 pub returns-in-Given : goal.returns-in-Given

@@ -1,17 +1,14 @@
-use mathlib.Core.Path.{◌≡◌, sym, ap, ◌∙◌}
-use mathlib.Core.List.{List}
+use mathlib.Core.Path.{sym, ap, ◌∙◌}
 use Prim.Native.Nat.{ℕ}
 use Rattle.reply.specs.Reply.{Reply}
 use Rattle.lent.specs.Lent.{number_left, words_left, lay_number}
 use Rattle.lent.proofs.Laws.{fault-number, fault-words}
 use Rattle.window.specs.declared.Offset.{Offset}
 use Rattle.entries.specs.Part.{told_part, bytes_of}
-use Rattle.entries.specs.declared.Part.{Part}
 use Rattle.efs.specs.Rules.{rules_of}
 use Rattle.place.specs.Place.{part_at}
 use Rattle.place.proofs.View.{nearest-place}
 use Rattle.version_words.proofs.There.{version-there, version-none}
-use borrow.Author.Rules.{rules}
 use Rattle.version_words.proofs.view.Goals as goal
 
 pub returns-in-Given : goal.returns-in-Given

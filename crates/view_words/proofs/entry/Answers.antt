@@ -1,4 +1,4 @@
-use mathlib.Core.Path.{◌≡◌, sym, ap, ◌∙◌}
+use mathlib.Core.Path.{sym, ap, ◌∙◌}
 use Rattle.lent.proofs.Laws.{given-number, given-words, fault-number, fault-words}
 use Rattle.window.specs.declared.Offset.{Offset}
 use Rattle.entries.specs.Entry.{told_entry}
@@ -6,7 +6,6 @@ use Rattle.efs.specs.Rules.{rules_of}
 use Rattle.place.specs.Place.{entry_at}
 use Rattle.place.proofs.View.{nearest-place}
 use Rattle.flash_words.specs.Images.{lay_entry}
-use borrow.Author.Rules.{rules}
 use Rattle.view_words.proofs.entry.Goals as goal
 
 pub returns-in-Given : goal.returns-in-Given

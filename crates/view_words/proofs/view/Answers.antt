@@ -1,12 +1,11 @@
-use mathlib.Core.Path.{◌≡◌, sym, ap, ◌∙◌}
-use mathlib.Core.List.{List, [], ◌∷◌}
+use mathlib.Core.Path.{sym, ap, ◌∙◌}
+use mathlib.Core.List.{[], ◌∷◌}
 use Rattle.lent.specs.Lent.{number_for, words_for}
 use Rattle.lent.proofs.Laws.{given-number, given-words, fault-number, fault-words}
 use Rattle.directory.specs.Directory.{told_directory}
 use Rattle.window.specs.declared.Offset.{Offset}
 use Rattle.place.specs.Place.{held_place}
 use Rattle.flash_words.specs.Images.{lay_place}
-use borrow.Author.Rules.{rules}
 use Rattle.view_words.proofs.view.Goals as goal
 
 pub returns-in-Given : goal.returns-in-Given

@@ -1,5 +1,4 @@
-use mathlib.Core.Path.{◌≡◌, sym, ap, ◌∙◌}
-use Prim.Native.Nat.{◌≤◌}
+use mathlib.Core.Path.{sym, ap, ◌∙◌}
 use native.Mathlib.Omega.{arith}
 use Rattle.reply.specs.Reply.{Reply, then}
 use Rattle.directory.specs.Directory.{psp_kind, told_directory}
@@ -9,7 +8,6 @@ use Rattle.flash.specs.Flash.{from_lookup}
 use Rattle.efs.specs.Rules.{rules_of}
 use Rattle.flash.proofs.Ways.{opened-small}
 use Rattle.walk.specs.Walk.{walk_of, first_in}
-use borrow.Author.Rules.{rules}
 use Rattle.walk.proofs.find_image.Goals as goal
 
 pub walk_directory-requires : goal.walk_directory-requires

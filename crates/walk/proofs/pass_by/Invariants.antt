@@ -1,9 +1,7 @@
-use mathlib.Core.Path.{◌≡◌, sym, ap, ◌∙◌}
-use Prim.Native.Nat.{ℕ, ◌+◌, ◌-◌, ◌≤◌}
-use native.Mathlib.Omega.{arith}
+use mathlib.Core.Path.{◌≡◌}
+use Prim.Native.Nat.{◌+◌, ◌-◌, ◌≤◌}
 use borrow.Author.Rules.{rules}
 use Rattle.walk.specs.Walk.{walk_from, first_in}
-use Rattle.walk.proofs.Steps.{by-pass, pass-told}
 use Rattle.walk.proofs.pass_by.Given as goal
 
 abbrev pub invariant-loop-rest : goal.invariant-loop-rest

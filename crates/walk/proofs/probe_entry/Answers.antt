@@ -5,7 +5,6 @@ use Rattle.entries.specs.declared.EntryAnswer.{EntryAnswer}
 use Rattle.walk.specs.Probe.{probed, probed_by, probe_of}
 use Rattle.walk.specs.declared.Probe.TheVariants as probe
 use Rattle.reply.proofs.ReplyLaws.{fault-back}
-use borrow.Author.Rules.{rules}
 use Rattle.walk.proofs.probe_entry.Goals as goal
 use Rattle.walk.proofs.probe_entry.Goals.{After-entry_in}
 

@@ -1,7 +1,6 @@
 use borrow.Author.Tests.{eq-eqb, ne_eqb}
-use mathlib.Core.Path.{◌≡◌, sym, ◌∙◌}
+use mathlib.Core.Path.{sym, ◌∙◌}
 use Rattle.walk.specs.Probe.{probed}
-use borrow.Author.Rules.{rules}
 use Rattle.walk.proofs.tested_entry.Goals as goal
 
 pub returns-then-matches : goal.returns-then-matches

@@ -1,5 +1,4 @@
 use borrow.Author.Tests.{eq-eqb, ne_eqb}
-use borrow.Author.Rules.{rules}
 use Rattle.wrong.proofs.at_level.Goals as goal
 
 pub returns-then-level-eq0 : goal.returns-then-level-eq0

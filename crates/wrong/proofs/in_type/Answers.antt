@@ -1,5 +1,4 @@
 use Prim.Native.Nat.{◌+◌}
-use borrow.Author.Rules.{rules}
 use Rattle.wrong.proofs.in_type.Goals as goal
 
 pub returns : goal.returns

@@ -3,7 +3,6 @@ use Prim.Native.Nat.{ℕ, ◌*◌, ◌%◌, ◌^◌, ◌<◌, ◌≤◌}
 use native.Mathlib.Nat.{pow-le-pow_right, mod-eq_of_lt}
 use native.Mathlib.Omega.{arith}
 use lib.Pow.{pow_pos}
-use borrow.Author.Rules.{rules}
 use Rattle.wrong.proofs.kept_flags.Goals as goal
 use Rattle.wrong.proofs.kept_flags.Goals.{Then-used-lt16}
 

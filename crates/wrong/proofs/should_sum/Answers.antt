@@ -4,7 +4,6 @@ use native.Mathlib.Omega.{arith}
 use lib.ListN.{length, take, drop, drop_of_length-le, length-drop}
 use lib.Seq.{take_all, take-nil}
 use Rattle.fletcher.specs.Fletcher.{fletcher_of}
-use borrow.Author.Rules.{rules}
 use Rattle.wrong.proofs.should_sum.Goals as goal
 
 pub returns-then-image-from : goal.returns-then-image-from

@@ -1,7 +1,6 @@
 use mathlib.Core.Path.{sym, ap, ◌∙◌}
 use Rattle.lent.proofs.Laws.{given-number, given-words, fault-number, fault-words}
 use Rattle.wrong.specs.Wrong.{lay_wrong, told_wrong}
-use borrow.Author.Rules.{rules}
 use Rattle.wrong.proofs.wrong.Goals as goal
 
 pub returns-in-Given : goal.returns-in-Given

@@ -9,7 +9,6 @@ use Rattle.window.proofs.Length.{allowed-fact}
 use Rattle.efs.specs.declared.Rules.{Rules}
 use Rattle.wrong.specs.Wrong.{at_level, wrong_in, wrong_at}
 use Rattle.wrong.specs.declared.WrongField.{WrongField}
-use borrow.Author.Rules.{rules}
 use Rattle.wrong.proofs.wrong_at.Goals as goal
 use Rattle.wrong.proofs.wrong_at.Goals.{Then-length_allowed}
 

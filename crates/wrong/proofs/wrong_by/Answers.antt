@@ -1,6 +1,5 @@
 use mathlib.Core.Path.{refl, ap}
 use Rattle.reply.specs.Reply.{given}
-use borrow.Author.Rules.{rules}
 use Rattle.wrong.proofs.wrong_by.Goals as goal
 
 pub returns-in-Alone : goal.returns-in-Alone
