@@ -9,6 +9,6 @@ mod binaries;
 mod checksum;
 mod guid_table;
 mod images;
-mod mailbox;
+mod mailbox_exports;
 mod views;
 mod writing;
