@@ -20,14 +20,14 @@ module _ (r : Rules) (s : List ℕ) (d : Directory) (i : ℕ) where
   unfolding added_by
   added_none h = rw (ne_eqb _ _ h)
 
-  pub added-led : class_at r.kind s d.place.0 i ≡ r.kind.lead → added_by r s d i ≡ then (led_by r s d i) (λ n. given (record { directory = n; lead = i } ∷ []))
+  pub added_led : class_at r.kind s d.place.0 i ≡ r.kind.lead → added_by r s d i ≡ then (led_by r s d i) (λ n. given (record { directory = n; lead = i } ∷ []))
   unfolding added_by
-  added-led h = rw (eq-eqb _ _ h)
+  added_led h = rw (eq-eqb _ _ h)
 
   -- one directory at most
-  pub added-few : (here : List Entered) → added_by r s d i ≡ given here → length here ≤ 1
+  pub added_few : (here : List Entered) → added_by r s d i ≡ given here → length here ≤ 1
   unfolding added_by
-  added-few here e = by (eqb (class_at r.kind s d.place.0 i) r.kind.lead) (led_by r s d i) e
+  added_few here e = by (eqb (class_at r.kind s d.place.0 i) r.kind.lead) (led_by r s d i) e
     where
       by : (b : Bool) (x : Reply Directory) → cond b (then x (λ n. given (record { directory = n; lead = i } ∷ []))) (given []) ≡ given here → length here ≤ 1
       by true (given n) q = let h : ◌≡◌ {A = List Entered} (record { directory = n; lead = i } ∷ []) here = cc in let l : 1 ≡ length here = ap length h in omega arith
@@ -36,21 +36,21 @@ module _ (r : Rules) (s : List ℕ) (d : Directory) (i : ℕ) where
 
 -- as the code tells it
 module _ (x : Reply (List Entered)) (count : ℕ) (before after : List ℕ) where
-  pub rows-given : (here : List Entered) → x ≡ given here → take (words_of (count + length here)) after ≡ take (words_of count) before ++ lay_rows here → RowsAdded x count before after
-  rows-given here e h found q = subst (λ (l : List Entered). take (words_of (count + length l)) after ≡ take (words_of count) before ++ lay_rows l) (let g = sym e ∙ q in cc) h
+  pub rows_given : (here : List Entered) → x ≡ given here → take (words_of (count + length here)) after ≡ take (words_of count) before ++ lay_rows here → RowsAdded x count before after
+  rows_given here e h found q = subst (λ (l : List Entered). take (words_of (count + length l)) after ≡ take (words_of count) before ++ lay_rows l) (let g = sym e ∙ q in cc) h
 
-  pub rows-fault : (number : ℕ) (carried : Carried) → x ≡ refused number carried → RowsAdded x count before after
-  rows-fault number carried e found q = clash (sym e ∙ q)
+  pub rows_fault : (number : ℕ) (carried : Carried) → x ≡ refused number carried → RowsAdded x count before after
+  rows_fault number carried e found q = clash (sym e ∙ q)
 
 pub none_rows : (x : Reply (List Entered)) (count : ℕ) (rows : List ℕ) → x ≡ given [] → (given count ≡ then x (λ here. given (count + length here))) × RowsAdded x count rows rows
 unfolding lay_rows
 none_rows x count rows e =
     let n : count + 0 ≡ count = omega arith in
-    (rw e (ap given (sym n)), rows-given x count rows rows [] e (rw n (sym (append-nil (take (words_of count) rows)))))
+    (rw e (ap given (sym n)), rows_given x count rows rows [] e (rw n (sym (append-nil (take (words_of count) rows)))))
 
-pub one-row : (x : Reply (List Entered)) (count : ℕ) (before after : List ℕ) (e : Entered) → x ≡ given (e ∷ []) → take (1 + 4 * count + 4) after ≡ take (words_of count) before ++ lay_entered e →
+pub one_row : (x : Reply (List Entered)) (count : ℕ) (before after : List ℕ) (e : Entered) → x ≡ given (e ∷ []) → take (1 + 4 * count + 4) after ≡ take (words_of count) before ++ lay_entered e →
     (given (count + 1) ≡ then x (λ here. given (count + length here))) × RowsAdded x count before after
 unfolding lay_rows
-one-row x count before after e q h =
+one_row x count before after e q h =
     let n : words_of (count + 1) ≡ 1 + 4 * count + 4 = omega arith in
-    (rw q, rows-given x count before after (e ∷ []) q (rw n h))
+    (rw q, rows_given x count before after (e ∷ []) q (rw n h))

@@ -17,9 +17,9 @@ use Rattle.all_directories.specs.Gathered.{led_by, added_by}
 abbrev pub joined : (first rest : Reply (List Entered)) → Reply (List Entered)
 joined first rest = then first (λ here. then rest (λ behind. given (here ++ behind)))
 
-pub joined-twice : (done here : List Entered) (rest : Reply (List Entered)) → joined (given done) (joined (given here) rest) ≡ joined (given (done ++ here)) rest
-joined-twice done here (given behind) = ap given (sym (append_assoc done here behind))
-joined-twice done here (refused number carried) = refl
+pub joined_twice : (done here : List Entered) (rest : Reply (List Entered)) → joined (given done) (joined (given here) rest) ≡ joined (given (done ++ here)) rest
+joined_twice done here (given behind) = ap given (sym (append_assoc done here behind))
+joined_twice done here (refused number carried) = refl
 
 module _ (r : Rules) (s : List ℕ) where
   -- the entries of level two enter nothing
@@ -61,10 +61,10 @@ module _ (r : Rules) (s : List ℕ) where
 
     pub from_more : (n i : ℕ) (done here : List Entered) → i < n → added_by r s d i ≡ given here → joined (given done) (from n i) ≡ joined (given (done ++ here)) (from n (i + 1))
     from_more n i done here h e =
-        ap (joined (given done)) (next n i h ∙ ap (λ (x : Reply (List Entered)). joined x (from n (i + 1))) e) ∙ joined-twice done here (from n (i + 1))
+        ap (joined (given done)) (next n i h ∙ ap (λ (x : Reply (List Entered)). joined x (from n (i + 1))) e) ∙ joined_twice done here (from n (i + 1))
 
-    pub from-fault : (n i number : ℕ) (carried : Carried) (done : List Entered) → i < n → added_by r s d i ≡ refused number carried → joined (given done) (from n i) ≡ refused number carried
-    from-fault n i number carried done h e = ap (joined (given done)) (next n i h ∙ ap (λ (x : Reply (List Entered)). joined x (from n (i + 1))) e)
+    pub from_fault : (n i number : ℕ) (carried : Carried) (done : List Entered) → i < n → added_by r s d i ≡ refused number carried → joined (given done) (from n i) ≡ refused number carried
+    from_fault n i number carried done h e = ap (joined (given done)) (next n i h ∙ ap (λ (x : Reply (List Entered)). joined x (from n (i + 1))) e)
 
     pub from_end : (n i : ℕ) (done : List Entered) → n ≤ i → joined (given done) (from n i) ≡ given done
     unfolding entered_in entries_from

@@ -22,8 +22,8 @@ rows_append [] here = refl
 rows_append (e ∷ done) here = ap (λ (l : List ℕ). e.directory.place.0 ∷ e.directory.level ∷ e.directory.total ∷ e.lead ∷ l) (rows_append done here)
 
 -- the first word set
-pub head-set : (l rest : List ℕ) (k n : ℕ) → take (1 + k) l ≡ 0 ∷ rest → take (1 + k) (set l 0 n) ≡ n ∷ rest
-head-set l rest k n e = let one : 1 + k ≡ suc k = omega arith in rw one (by l (rw (← one) e))
+pub head_set : (l rest : List ℕ) (k n : ℕ) → take (1 + k) l ≡ 0 ∷ rest → take (1 + k) (set l 0 n) ≡ n ∷ rest
+head_set l rest k n e = let one : 1 + k ≡ suc k = omega arith in rw one (by l (rw (← one) e))
   where
     by : (l : List ℕ) → take (suc k) l ≡ 0 ∷ rest → take (suc k) (set l 0 n) ≡ n ∷ rest
     by [] e = absurd (let z : 0 ≡ suc (length rest) = ap length e in let f : ⊥ = omega arith in f)

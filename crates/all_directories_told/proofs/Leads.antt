@@ -14,13 +14,13 @@ use Rattle.entries.specs.Entry.{entry_of}
 use Rattle.efs.specs.declared.Rules.{Rules}
 use Rattle.walk.specs.Walk.{entries_from, walk_from}
 use Rattle.walk_places.specs.Places.{led_to, Enters, FaultAt, total_below, totals_below}
-use Rattle.walk_places.proofs.Order.{Compared, less, equal, more, compared, one-given, no-fault}
-use Rattle.walk_places.proofs.Answer.{more-below}
+use Rattle.walk_places.proofs.Order.{Compared, less, equal, more, compared, one_given, no_fault}
+use Rattle.walk_places.proofs.Answer.{more_below}
 use Rattle.all_directories.specs.AllDirectories.{Entered, entered_in}
 use Rattle.all_directories.specs.Gathered.{added_by}
 use Rattle.all_directories.proofs.Entry.{joined, entry_first}
 use Rattle.all_directories_told.specs.Told.{In, Rising, totals_of}
-use Rattle.all_directories_told.proofs.Lists.{all_from, all_append, in-front, in-back, rising-append, totals-append}
+use Rattle.all_directories_told.proofs.Lists.{all_from, all_append, in_front, in_back, rising_append, totals_append}
 
 module _ (r : Rules) (s : List ℕ) (d : Directory) where
   -- what the leads from entry i on lead to, none of them at fault
@@ -38,8 +38,8 @@ module _ (r : Rules) (s : List ℕ) (d : Directory) where
 
   -- ---- an entry of level one before the rest
   -- what holds at i, and from i + 1 on, holds from i on
-  from-here : (P : ℕ → Type 0) (i k : ℕ) → P i → (i + 1 ≤ k → P k) → i ≤ k → P k
-  from-here P i k here later h = by (compared i k)
+  from_here : (P : ℕ → Type 0) (i k : ℕ) → P i → (i + 1 ≤ k → P k) → i ≤ k → P k
+  from_here P i k here later h = by (compared i k)
     where
       by : Compared i k → P k
       by (less l) = later (omega arith)
@@ -53,13 +53,13 @@ module _ (r : Rules) (s : List ℕ) (d : Directory) where
     added here only up every sound t (ended behind w e) = ended (here ++ behind)
         (record {
           only = all_append (λ e. (i ≤ e.lead) × Enters r s d e.lead e.directory) here behind (all_from (λ e a. let h = a.0 in (omega arith, a.1)) here only) (all_from (λ e a. let h = a.0 in (omega arith, a.1)) behind w.only);
-          every = λ k n. from-here (λ k. Enters r s d k n → In (record { directory = n; lead = k }) (here ++ behind)) i k (λ q. in-front here behind _ (every n q)) (λ h q. in-back here behind _ (w.every k n h q));
-          rising = rising-append here behind (i + 1) (all_from (λ e a. let h = a.0 in omega arith) here only) (all_from (λ e a. a.0) behind w.only) up w.rising;
-          sound = λ k number carried. from-here (λ k. FaultAt r s d k number carried → ⊥) i k (sound number carried) (w.sound k number carried);
-          sum = omega (arith, w.sum, more-below r s d 0 0 i, totals-append here behind);
+          every = λ k n. from_here (λ k. Enters r s d k n → In (record { directory = n; lead = k }) (here ++ behind)) i k (λ q. in_front here behind _ (every n q)) (λ h q. in_back here behind _ (w.every k n h q));
+          rising = rising_append here behind (i + 1) (all_from (λ e a. let h = a.0 in omega arith) here only) (all_from (λ e a. a.0) behind w.only) up w.rising;
+          sound = λ k number carried. from_here (λ k. FaultAt r s d k number carried → ⊥) i k (sound number carried) (w.sound k number carried);
+          sum = omega (arith, w.sum, more_below r s d 0 0 i, totals_append here behind);
         }) (ap (joined (given here)) e)
     added here only up every sound t (stopped k number carried f w e) = stopped k number carried f
-        (λ l other with. from-here (λ l. l < k → FaultAt r s d l other with → ⊥) i l (λ h. sound other with) (w l other with)) (ap (joined (given here)) e)
+        (λ l other with. from_here (λ l. l < k → FaultAt r s d l other with → ⊥) i l (λ h. sound other with) (w l other with)) (ap (joined (given here)) e)
 
   -- ---- the last m entries of level one
   pub came : (m i : ℕ) → i + m ≡ d.total → Came i (entered_in (walk_from 1 r s d m i) 0)
@@ -84,8 +84,8 @@ module _ (r : Rules) (s : List ℕ) (d : Directory) where
       by true q (given n) l w =
           let here : Enters r s d i n = record { inside = omega arith; lead = eqb-true _ _ q; directory = l } in
           let t : total_below r s d i ≡ n.total = rw (q, l) in
-          rw (q, l) (added i rest (record { directory = n; lead = i } ∷ []) ((refl, here), tt) (tt, tt) (λ m h. inl (let f : n ≡ m = one-given l h.directory in λ j. record { directory = f j; lead = i }))
-          (λ number carried. no-fault r s d i number carried n here) (omega arith) w)
+          rw (q, l) (added i rest (record { directory = n; lead = i } ∷ []) ((refl, here), tt) (tt, tt) (λ m h. inl (let f : n ≡ m = one_given l h.directory in λ j. record { directory = f j; lead = i }))
+          (λ number carried. no_fault r s d i number carried n here) (omega arith) w)
       by true q (refused number carried) l w =
           rw (q, l) (stopped i number carried (record { inside = omega arith; lead = eqb-true _ _ q; fault = l }) (λ k other with h g. absurd (let f : ⊥ = omega arith in f)) refl)
       by false q x l w =

@@ -23,26 +23,26 @@ pub all_append : (P : Entered → Type 0) (a b : List Entered) → All P a → A
 all_append P [] b p q = q
 all_append P (x ∷ a) b p q = (p.0, all_append P a b p.1 q)
 
-pub in-front : (a b : List Entered) (e : Entered) → In e a → In e (a ++ b)
-in-front [] b e h = absurd h
-in-front (x ∷ a) b e (inl q) = inl q
-in-front (x ∷ a) b e (inr h) = inr (in-front a b e h)
+pub in_front : (a b : List Entered) (e : Entered) → In e a → In e (a ++ b)
+in_front [] b e h = absurd h
+in_front (x ∷ a) b e (inl q) = inl q
+in_front (x ∷ a) b e (inr h) = inr (in_front a b e h)
 
-pub in-back : (a b : List Entered) (e : Entered) → In e b → In e (a ++ b)
-in-back [] b e h = h
-in-back (x ∷ a) b e h = inr (in-back a b e h)
+pub in_back : (a b : List Entered) (e : Entered) → In e b → In e (a ++ b)
+in_back [] b e h = h
+in_back (x ∷ a) b e h = inr (in_back a b e h)
 
 -- the leads of the first are below i, those of the second are not
-pub rising-append : (a b : List Entered) (i : ℕ) → All (λ e. e.lead < i) a → All (λ e. i ≤ e.lead) b → Rising a → Rising b → Rising (a ++ b)
-rising-append [] b i p q r s = s
-rising-append (x ∷ a) b i p q r s =
+pub rising_append : (a b : List Entered) (i : ℕ) → All (λ e. e.lead < i) a → All (λ e. i ≤ e.lead) b → Rising a → Rising b → Rising (a ++ b)
+rising_append [] b i p q r s = s
+rising_append (x ∷ a) b i p q r s =
     let h = p.0 in
-    (all_append (λ e. x.lead < e.lead) a b r.0 (all_from (λ e g. let k : x.lead < e.lead = omega arith in k) b q), rising-append a b i p.1 q r.1 s)
+    (all_append (λ e. x.lead < e.lead) a b r.0 (all_from (λ e g. let k : x.lead < e.lead = omega arith in k) b q), rising_append a b i p.1 q r.1 s)
 
-pub totals-append : (a b : List Entered) → totals_of (a ++ b) ≡ totals_of a + totals_of b
+pub totals_append : (a b : List Entered) → totals_of (a ++ b) ≡ totals_of a + totals_of b
 unfolding totals_of
-totals-append [] b = omega arith
-totals-append (x ∷ a) b = omega (arith, totals-append a b)
+totals_append [] b = omega arith
+totals_append (x ∷ a) b = omega (arith, totals_append a b)
 
 -- ---- rising leads
 -- a later lead is above the first

@@ -4,15 +4,15 @@ use mathlib.Core.List.{List, [], ◌∷◌}
 use Prim.Native.Nat.{ℕ}
 use native.Mathlib.Omega.{arith}
 use Rattle.reply.specs.Reply.{Reply, Carried, given, refused, tested, then}
-use Rattle.reply.proofs.ReplyLaws.{clash, then-given}
+use Rattle.reply.proofs.ReplyLaws.{clash, then_given}
 use Rattle.directory.specs.declared.Directory.{Directory}
 use Rattle.efs.specs.declared.Rules.{Rules}
 use Rattle.flash.specs.Flash.{flash_directory}
 use Rattle.walk.specs.Walk.{walk_from, walk_of, find_image}
 use Rattle.walk_places.specs.Places.{led_to, Enters, totals_below, all_spots}
 use Rattle.walk_places.specs.Lookup.{Answered, matched, faulty, ended}
-use Rattle.walk_places.proofs.Order.{Compared, less, equal, more, compared, one-given}
-use Rattle.walk_places.proofs.Lookup.{image-lookup-by-places}
+use Rattle.walk_places.proofs.Order.{Compared, less, equal, more, compared, one_given}
+use Rattle.walk_places.proofs.Lookup.{image_lookup_by_places}
 use Rattle.all_directories.specs.AllDirectories.{Entered, entered_in, flash_directories}
 use Rattle.all_directories_told.specs.Told.{ListAll, In, totals_of, LowestFault, Listed, Answers, Listing, AllDirectoriesTold}
 use Rattle.all_directories_told.proofs.Lists.{all_in, all_from, one_list}
@@ -36,12 +36,12 @@ module _ (r : Rules) (s : List ℕ) (d : Directory) (o : flash_directory r 1 s �
       by (leads.ended behind w e) = whole behind w (top e)
       by (leads.stopped k number carried f w e) = broken k number carried (record { here = f; earlier = λ l other with. w l other with (omega arith) }) (top e)
 
-  listed-from : (behind : List Entered) → From r s d 0 behind → Listed r s d (record { directory = d; lead = 0 } ∷ behind)
-  listed-from behind w = record { behind = behind; first = refl; only = all_from (λ e a. a.1) behind w.only; every = λ i n. w.every i n (omega arith); rising = w.rising }
+  listed_from : (behind : List Entered) → From r s d 0 behind → Listed r s d (record { directory = d; lead = 0 } ∷ behind)
+  listed_from behind w = record { behind = behind; first = refl; only = all_from (λ e a. a.1) behind w.only; every = λ i n. w.every i n (omega arith); rising = w.rising }
 
   -- the lowest lead at fault is one, with one number
-  one-fault : (i k number other : ℕ) (carried with : Carried) → LowestFault r s d i number carried → LowestFault r s d k other with → ◌≡◌ {A = Reply (List Entered)} (refused number carried) (refused other with)
-  one-fault i k number other carried with w v = by (compared i k)
+  one_fault : (i k number other : ℕ) (carried with : Carried) → LowestFault r s d i number carried → LowestFault r s d k other with → ◌≡◌ {A = Reply (List Entered)} (refused number carried) (refused other with)
+  one_fault i k number other carried with w v = by (compared i k)
     where
       by : Compared i k → ◌≡◌ {A = Reply (List Entered)} (refused number carried) (refused other with)
       by (less h) = absurd (v.earlier i number carried h w.here)
@@ -54,22 +54,22 @@ module _ (r : Rules) (s : List ℕ) (d : Directory) (o : flash_directory r 1 s �
       by : Ways (flash_directories r s) → Answers flash_directories r s d
       by (whole behind w e) = record {
         sound = λ q. (record { directory = d; lead = 0 } ∷ behind, e);
-        sound-only = λ found q i number carried. w.sound i number carried (omega arith);
-        listed = λ found q. subst (Listed r s d) (one-given e q) (listed-from behind w);
+        sound_only = λ found q i number carried. w.sound i number carried (omega arith);
+        listed = λ found q. subst (Listed r s d) (one_given e q) (listed_from behind w);
         fault = λ i number carried f. absurd (w.sound i number carried (omega arith) f.here);
-        fault-only = λ number carried q. clash (sym q ∙ e);
+        fault_only = λ number carried q. clash (sym q ∙ e);
       }
       by (broken k other with w e) = record {
         sound = λ q. absurd (q k other with w.here);
-        sound-only = λ found q. clash (sym e ∙ q);
+        sound_only = λ found q. clash (sym e ∙ q);
         listed = λ found q. clash (sym e ∙ q);
-        fault = λ i number carried f. e ∙ one-fault k i other number with carried w f;
-        fault-only = λ number carried q. (k, let h = sym e ∙ q in let n : other ≡ number = cc in let c : with ≡ carried = cc in subst (λ (x : ℕ). LowestFault r s d k x carried) n (subst (λ (x : Carried). LowestFault r s d k other x) c w));
+        fault = λ i number carried f. e ∙ one_fault k i other number with carried w f;
+        fault_only = λ number carried q. (k, let h = sym e ∙ q in let n : other ≡ number = cc in let c : with ≡ carried = cc in subst (λ (x : ℕ). LowestFault r s d k x carried) n (subst (λ (x : Carried). LowestFault r s d k other x) c w));
       }
 
   -- what is listed is one list
-  one-listed : (a b : List Entered) → Listed r s d a → Listed r s d b → a ≡ b
-  one-listed a b w v = w.first ∙ ap (λ (l : List Entered). record { directory = d; lead = 0 } ∷ l) (one_list w.behind v.behind w.rising v.rising (other w v) (other v w)) ∙ sym v.first
+  one_listed : (a b : List Entered) → Listed r s d a → Listed r s d b → a ≡ b
+  one_listed a b w v = w.first ∙ ap (λ (l : List Entered). record { directory = d; lead = 0 } ∷ l) (one_list w.behind v.behind w.rising v.rising (other w v) (other v w)) ∙ sym v.first
     where
       other : {a b : List Entered} → (w : Listed r s d a) (v : Listed r s d b) (e : Entered) → In e w.behind → In e v.behind
       other w v e h = v.every e.lead e.directory (all_in (λ e. Enters r s d e.lead e.directory) w.behind e w.only h)
@@ -79,29 +79,29 @@ module _ (r : Rules) (s : List ℕ) (d : Directory) (o : flash_directory r 1 s �
     where
       by : (x : Reply (List Entered)) → flash_directories r s ≡ x → list r s ≡ flash_directories r s
       by (given found) e =
-          let f = v.sound (holds_of.sound-only found e) in
-          f.1 ∙ ap given (one-listed f.0 found (v.listed f.0 f.1) (holds_of.listed found e)) ∙ sym e
-      by (refused number carried) e = let f = holds_of.fault-only number carried e in v.fault f.0 number carried f.1 ∙ sym e
+          let f = v.sound (holds_of.sound_only found e) in
+          f.1 ∙ ap given (one_listed f.0 found (v.listed f.0 f.1) (holds_of.listed found e)) ∙ sym e
+      by (refused number carried) e = let f = holds_of.fault_only number carried e in v.fault f.0 number carried f.1 ∙ sym e
 
   -- the totals are those of all spots
-  all-totals : (found : List Entered) → flash_directories r s ≡ given found → totals_of found ≡ all_spots r s d
+  all_totals : (found : List Entered) → flash_directories r s ≡ given found → totals_of found ≡ all_spots r s d
   unfolding totals_of totals_below
-  all-totals found e = by ways
+  all_totals found e = by ways
     where
       by : Ways (flash_directories r s) → totals_of found ≡ all_spots r s d
-      by (whole behind w q) = ap totals_of (one-given e q) ∙ omega (arith, w.sum)
+      by (whole behind w q) = ap totals_of (one_given e q) ∙ omega (arith, w.sum)
       by (broken i number carried w q) = clash (sym q ∙ e)
 
   count_of : (class sub count : ℕ) (found : List Entered) → flash_directories r s ≡ given found → find_image r s class sub ≡ refused 8 (tested count) → count ≡ totals_of found
-  count_of class sub count found e f = by (image-lookup-by-places.holds.answers r s class sub d o).answered
+  count_of class sub count found e f = by (image_lookup_by_places.holds.answers r s class sub d o).answered
     where
       by : Answered r s d class sub (find_image r s class sub) → count ≡ totals_of found
       by (matched p m w q) = clash (sym f ∙ q)
-      by (faulty i number carried w q) = absurd (holds_of.sound-only found e i number carried w.here)
-      by (ended w q) = let g = sym f ∙ q in let n : count ≡ all_spots r s d = cc in n ∙ sym (all-totals found e)
+      by (faulty i number carried w q) = absurd (holds_of.sound_only found e i number carried w.here)
+      by (ended w q) = let g = sym f ∙ q in let n : count ≡ all_spots r s d = cc in n ∙ sym (all_totals found e)
 
-pub all-directories-told : AllDirectoriesTold
-all-directories-told = record { holds = holds; settles = settles; counted = counted }
+pub all_directories_told_lem : AllDirectoriesTold
+all_directories_told_lem = record { holds = holds; settles = settles; counted = counted }
   where
     refuses : (list : ListAll) → Type 0
     refuses list = (r : Rules) (s : List ℕ) (number : ℕ) (carried : Carried) → flash_directory r 1 s ≡ refused number carried → list r s ≡ refused number carried
@@ -110,14 +110,14 @@ all-directories-told = record { holds = holds; settles = settles; counted = coun
     no_one r s number carried e = ap (λ (x : Reply Directory). then x (λ d. entered_in (walk_of 1 r s d) 0)) e
 
     holds : Listing flash_directories
-    holds = record { no-level-one = no_one; answers = holds_of }
+    holds = record { no_level_one = no_one; answers = holds_of }
 
     settles : (list : ListAll) → Listing list → (r : Rules) (s : List ℕ) → list r s ≡ flash_directories r s
     settles list v r s = by (flash_directory r 1 s) refl
       where
         by : (x : Reply Directory) → flash_directory r 1 s ≡ x → list r s ≡ flash_directories r s
         by (given d) e = settled r s d e list (v.answers r s d e)
-        by (refused number carried) e = v.no-level-one r s number carried e ∙ sym (no_one r s number carried e)
+        by (refused number carried) e = v.no_level_one r s number carried e ∙ sym (no_one r s number carried e)
 
     counted : (r : Rules) (s : List ℕ) (class sub count : ℕ) (found : List Entered) → flash_directories r s ≡ given found → find_image r s class sub ≡ refused 8 (tested count) → count ≡ totals_of found
-    counted r s class sub count found e = let t = then-given (flash_directory r 1 s) (λ d. entered_in (walk_of 1 r s d) 0) e in count_of r s t.0 t.1 class sub count found e
+    counted r s class sub count found e = let t = then_given (flash_directory r 1 s) (λ d. entered_in (walk_of 1 r s d) 0) e in count_of r s t.0 t.1 class sub count found e

@@ -50,15 +50,15 @@ pub record Listed (r : Rules) (image : List ℕ) (d : Directory) (found : List E
 pub record Answers (list : ListAll) (r : Rules) (image : List ℕ) (d : Directory) : Type 0 where
   -- they are given exactly where no lead is at fault
   pub sound : Sound r image d → (found : List Entered) × (list r image ≡ given found)
-  pub sound-only : (found : List Entered) → list r image ≡ given found → Sound r image d
+  pub sound_only : (found : List Entered) → list r image ≡ given found → Sound r image d
   pub listed : (found : List Entered) → list r image ≡ given found → Listed r image d found
   -- else the lowest lead at fault decides
   pub fault : (i number : ℕ) (carried : Carried) → LowestFault r image d i number carried → list r image ≡ refused number carried
-  pub fault-only : (number : ℕ) (carried : Carried) → list r image ≡ refused number carried → (i : ℕ) × LowestFault r image d i number carried
+  pub fault_only : (number : ℕ) (carried : Carried) → list r image ≡ refused number carried → (i : ℕ) × LowestFault r image d i number carried
 
 pub record Listing (list : ListAll) : Type 0 where
   -- level one is refused: so is the list, with the same number and what it carries
-  pub no-level-one : (r : Rules) (image : List ℕ) (number : ℕ) (carried : Carried) → flash_directory r 1 image ≡ refused number carried → list r image ≡ refused number carried
+  pub no_level_one : (r : Rules) (image : List ℕ) (number : ℕ) (carried : Carried) → flash_directory r 1 image ≡ refused number carried → list r image ≡ refused number carried
   pub answers : (r : Rules) (image : List ℕ) (d : Directory) → flash_directory r 1 image ≡ given d → Answers list r image d
 
 -- all this holds of the definition, and it leaves no other answer

@@ -7,21 +7,21 @@ use lib.ListN.{length, get_or, take, drop, length-append, take-append-drop, drop
 use lib.Seq.{length-take-le, take_at, drop_at, drop-drop}
 use Rattle.reply.specs.Reply.{Reply, given, refused}
 use Rattle.lent.specs.Lent.{number_for, words_for}
-use Rattle.lent.proofs.Laws.{number_fits, words-fits}
+use Rattle.lent.proofs.Laws.{number_fits, words_fits}
 use Rattle.window.specs.Length.{longest, sized}
 use Rattle.window.specs.declared.Offset.{Offset}
-use Rattle.window.proofs.Length.{sized-passed}
+use Rattle.window.proofs.Length.{sized_passed}
 use Rattle.directory.specs.Directory.{psp_kind, entry_place}
 use Rattle.directory.specs.declared.Directory.{Directory}
 use Rattle.entries.specs.Entry.{fields_at, entry_of}
 use Rattle.entries.specs.Part.{part_of}
 use Rattle.entries.specs.declared.Entry.{Entry}
 use Rattle.entries.specs.declared.Part.{Part}
-use Rattle.entries.proofs.Cases.{fields-part}
+use Rattle.entries.proofs.Cases.{fields_part}
 use Rattle.efs.specs.Rules.{rules_of}
 use Rattle.efs.specs.declared.Rules.{Rules}
 use Rattle.place.specs.Place.{check_at}
-use Rattle.place.proofs.View.{place-acceptance}
+use Rattle.place.proofs.View.{place_acceptance}
 use Rattle.flash_words.specs.Images.{lay_directory, lay_entry}
 use Rattle.all_entries.specs.AllEntries.{lay_part_or, lay_row, row_at, rows_from, lay_entries}
 
@@ -34,45 +34,45 @@ row_laid e part last is = ap (λ (l : List ℕ). lay_entry e ++ (get_or l 0 0 �
     by (refused number carried) = refl
 
 -- a row has eight words
-row-long : (e : Entry) (part : Reply Part) → length (lay_row e part) ≡ 8
-row-long e (given p) = refl
-row-long e (refused number carried) = refl
+row_long : (e : Entry) (part : Reply Part) → length (lay_row e part) ≡ 8
+row_long e (given p) = refl
+row_long e (refused number carried) = refl
 
 -- what fills the lent words is all that they hold
-words-filled : (values words : List ℕ) → length values ≡ length words → words_for values words ≡ values
-words-filled values words h =
-    sym (words-fits values words (omega (arith, h))) ∙ (ap (λ (l : List ℕ). values ++ l) (drop_of_length-le words {i = length values} (omega (arith, h))) ∙ append-nil values)
+words_filled : (values words : List ℕ) → length values ≡ length words → words_for values words ≡ values
+words_filled values words h =
+    sym (words_fits values words (omega (arith, h))) ∙ (ap (λ (l : List ℕ). values ++ l) (drop_of_length-le words {i = length values} (omega (arith, h))) ∙ append-nil values)
 
 -- a row, of what the code reads at the entry's place
 module _ (s : List ℕ) (d : Directory) (i : ℕ) (rules : Rules) (is : rules ≡ rules_of s) (at : Offset) (here : at ≡ d.place) (from : ℕ) (found : from ≡ entry_place rules.kind at.0 i) where
-  pub entry-from : from ≡ entry_place psp_kind d.place.0 i
-  entry-from = found ∙ (ap (λ (r : Rules). entry_place r.kind at.0 i) is ∙ ap (λ (o : Offset). entry_place psp_kind o.0 i) here)
+  pub entry_from : from ≡ entry_place psp_kind d.place.0 i
+  entry_from = found ∙ (ap (λ (r : Rules). entry_place r.kind at.0 i) is ∙ ap (λ (o : Offset). entry_place psp_kind o.0 i) here)
 
   module _ (long : length s ≤ longest) (inside : entry_place psp_kind d.place.0 i + 16 ≤ length s) (e : Entry) (read : e ≡ fields_at (take (from + 16 - from) (drop from s)) 0) where
-    the-entry : e ≡ entry_of psp_kind s d i
-    the-entry = read ∙ (fields-part s from (from + 16) refl ∙ ap (fields_at s) entry-from)
+    the_entry : e ≡ entry_of psp_kind s d i
+    the_entry = read ∙ (fields_part s from (from + 16) refl ∙ ap (fields_at s) entry_from)
 
     pub row_put : (part : Reply Part) (values row after : List ℕ) → part ≡ sized s (part_of rules.kind rules.window s at.0 e) → values ≡ lay_row e part → length row ≡ 8 → after ≡ words_for values row →
         after ≡ row_at (rules_of s) s d i
     row_put part values row after told laid eight put =
         let lies : part ≡ part_of psp_kind (length s) s d.place.0 e =
-        told ∙ (sized-passed s _ (record { from = omega arith; to = long })
+        told ∙ (sized_passed s _ (record { from = omega arith; to = long })
         ∙ (ap (λ (r : Rules). part_of r.kind r.window s at.0 e) is ∙ ap (λ (o : Offset). part_of psp_kind (length s) s o.0 e) here)) in
         put
-        ∙ (words-filled values row (ap (λ (l : List ℕ). length l) laid ∙ (row-long e part ∙ sym eight))
-        ∙ (laid ∙ (ap (lay_row e) lies ∙ ap (λ (e : Entry). lay_row e (part_of psp_kind (length s) s d.place.0 e)) the-entry)))
+        ∙ (words_filled values row (ap (λ (l : List ℕ). length l) laid ∙ (row_long e part ∙ sym eight))
+        ∙ (laid ∙ (ap (lay_row e) lies ∙ ap (λ (e : Entry). lay_row e (part_of psp_kind (length s) s d.place.0 e)) the_entry)))
 
 module _ (r : Rules) (s : List ℕ) (d : Directory) where
-  pub row-at-long : (i : ℕ) → length (row_at r s d i) ≡ 8
-  row-at-long i = row-long (entry_of r.kind s d i) (part_of r.kind r.window s d.place.0 (entry_of r.kind s d i))
+  pub row_at_long : (i : ℕ) → length (row_at r s d i) ≡ 8
+  row_at_long i = row_long (entry_of r.kind s d i) (part_of r.kind r.window s d.place.0 (entry_of r.kind s d i))
 
   rows_long : (m i : ℕ) → length (rows_from r s d m i) ≡ 8 * m
   unfolding rows_from
   rows_long zero i = refl
-  rows_long (suc m) i = length-append (row_at r s d i) (rows_from r s d m (i + 1)) ∙ omega (arith, row-at-long i, rows_long m (i + 1))
+  rows_long (suc m) i = length-append (row_at r s d i) (rows_from r s d m (i + 1)) ∙ omega (arith, row_at_long i, rows_long m (i + 1))
 
-  pub entries-long : length (lay_entries r s d) ≡ 3 + 8 * d.total
-  entries-long = length-append (lay_directory d) (rows_from r s d d.total 0) ∙ omega (arith, rows_long d.total 0)
+  pub entries_long : length (lay_entries r s d) ≡ 3 + 8 * d.total
+  entries_long = length-append (lay_directory d) (rows_from r s d d.total 0) ∙ omega (arith, rows_long d.total 0)
 
   -- one row more, at the end
   rows_more : (m i j : ℕ) → j ≡ i + m → rows_from r s d m i ++ row_at r s d j ≡ rows_from r s d (suc m) i
@@ -90,8 +90,8 @@ module _ (r : Rules) (s : List ℕ) (d : Directory) where
     filled_none = sym (ap (λ (l : List ℕ). l ++ drop 3 words) (append-nil (take 3 words)) ∙ take-append-drop 3 words)
 
     module _ (i : ℕ) (room : 3 + 8 * i ≤ length words) where
-      head-long : length (take 3 words ++ rows_from r s d i 0) ≡ 3 + 8 * i
-      head-long = length-append (take 3 words) (rows_from r s d i 0) ∙ omega (arith, length-take-le 3 words (omega arith), rows_long i 0)
+      head_long : length (take 3 words ++ rows_from r s d i 0) ≡ 3 + 8 * i
+      head_long = length-append (take 3 words) (rows_from r s d i 0) ∙ omega (arith, length-take-le 3 words (omega arith), rows_long i 0)
 
       -- the next row put into its own eight words
       pub filled_more : (held row : List ℕ) → held ≡ filled i → row ≡ row_at r s d i →
@@ -99,8 +99,8 @@ module _ (r : Rules) (s : List ℕ) (d : Directory) where
       filled_more held row inv is =
           let at = 3 + 8 * i in
           let done = take 3 words ++ rows_from r s d i 0 in
-          let before : take at held ≡ done = ap (take at) inv ∙ take_at done (drop at words) at head-long in
-          let behind : drop at held ≡ drop at words = ap (drop at) inv ∙ drop_at done (drop at words) at head-long in
+          let before : take at held ≡ done = ap (take at) inv ∙ take_at done (drop at words) at head_long in
+          let behind : drop at held ≡ drop at words = ap (drop at) inv ∙ drop_at done (drop at words) at head_long in
           let rest : drop (at + 8 - at) (drop at held) ≡ drop (3 + 8 * (i + 1)) words =
           ap (drop (at + 8 - at)) behind ∙ (drop-drop (at + 8 - at) at words ∙ ap (λ (k : ℕ). drop k words) (let q : at + (at + 8 - at) ≡ 3 + 8 * (i + 1) = omega arith in q)) in
           let next : suc i ≡ i + 1 = omega arith in
@@ -110,32 +110,32 @@ module _ (r : Rules) (s : List ℕ) (d : Directory) where
           (append_assoc (take 3 words) (rows_from r s d i 0) (row_at r s d i)
           ∙ ap (λ (l : List ℕ). take 3 words ++ l) (rows_more i 0 i (omega arith) ∙ ap (λ (m : ℕ). rows_from r s d m 0) next)))
 
-      head-fits : length (lay_directory d) ≤ length (filled i)
-      head-fits = omega (arith, head-long, length-append (take 3 words ++ rows_from r s d i 0) (drop (3 + 8 * i) words))
+      head_fits : length (lay_directory d) ≤ length (filled i)
+      head_fits = omega (arith, head_long, length-append (take 3 words ++ rows_from r s d i 0) (drop (3 + 8 * i) words))
 
       -- the directory put before its rows
-      head-put : words_for (lay_directory d) (filled i) ≡ (lay_directory d ++ rows_from r s d i 0) ++ drop (3 + 8 * i) words
-      head-put =
+      head_put : words_for (lay_directory d) (filled i) ≡ (lay_directory d ++ rows_from r s d i 0) ++ drop (3 + 8 * i) words
+      head_put =
           let rows = rows_from r s d i 0 ++ drop (3 + 8 * i) words in
-          sym (words-fits (lay_directory d) (filled i) head-fits)
+          sym (words_fits (lay_directory d) (filled i) head_fits)
           ∙ ap (λ (l : List ℕ). lay_directory d ++ l) (ap (drop 3) (append_assoc (take 3 words) (rows_from r s d i 0) (drop (3 + 8 * i) words)) ∙ drop_at (take 3 words) rows 3 (length-take-le 3 words (omega arith)))
 
     -- what is left, of the number and of the words
     module _ (room : 3 + 8 * d.total ≤ length words) (values held : List ℕ) (head : values ≡ lay_directory d) (rows : held ≡ filled d.total) where
       fits : length (lay_entries r s d) ≤ length words
-      fits = omega (arith, entries-long, room)
+      fits = omega (arith, entries_long, room)
 
-      pub entries-number : (n : ℕ) → n ≡ number_for 0 values held → n ≡ number_for 0 (lay_entries r s d) words
-      entries-number n is =
-          is ∙ (ap (λ (l : List ℕ). number_for 0 l held) head ∙ (ap (number_for 0 (lay_directory d)) rows ∙ (sym (number_fits (lay_directory d) (filled d.total) 0 (head-fits d.total room)) ∙ number_fits (lay_entries r s d) words 0 fits)))
+      pub entries_number : (n : ℕ) → n ≡ number_for 0 values held → n ≡ number_for 0 (lay_entries r s d) words
+      entries_number n is =
+          is ∙ (ap (λ (l : List ℕ). number_for 0 l held) head ∙ (ap (number_for 0 (lay_directory d)) rows ∙ (sym (number_fits (lay_directory d) (filled d.total) 0 (head_fits d.total room)) ∙ number_fits (lay_entries r s d) words 0 fits)))
 
-      pub entries-words : (after : List ℕ) → after ≡ words_for values held → after ≡ words_for (lay_entries r s d) words
-      entries-words after is =
+      pub entries_words : (after : List ℕ) → after ≡ words_for values held → after ≡ words_for (lay_entries r s d) words
+      entries_words after is =
           is
           ∙ (ap (λ (l : List ℕ). words_for l held) head
           ∙ (ap (words_for (lay_directory d)) rows
-          ∙ (head-put d.total room ∙ (ap (λ (k : ℕ). lay_entries r s d ++ drop k words) (sym entries-long) ∙ words-fits (lay_entries r s d) words fits))))
+          ∙ (head_put d.total room ∙ (ap (λ (k : ℕ). lay_entries r s d ++ drop k words) (sym entries_long) ∙ words_fits (lay_entries r s d) words fits))))
 
 -- a directory that is given at a place lies in the image, and so do its entries
 pub in_image_lem : (s : List ℕ) (place : ℕ) (d : Directory) → check_at (rules_of s) s place ≡ given d → (length s ≤ longest) × (entry_place psp_kind d.place.0 d.total ≤ length s) × (d.total ≤ 512)
-in_image_lem s place d e = let g = place-acceptance.only (rules_of s) s place d e in (g.long.to, g.good.present, g.good.few)
+in_image_lem s place d e = let g = place_acceptance.only (rules_of s) s place d e in (g.long.to, g.good.present, g.good.few)

@@ -35,17 +35,17 @@ module _ (pages : ℕ) (st : Structure) where
       }
 
   module _ (g : GoodStructure pages st) where
-    id-fits : id_fits st ≡ true
+    id_fits_lem : id_fits st ≡ true
     unfolding id_fits
-    id-fits = by (eqb st.class 1) refl
+    id_fits_lem = by (eqb st.class 1) refl
       where
         by : (one : Bool) → eqb st.class 1 ≡ one → cond one (eqb st.id 1) true ≡ true
         by true e = eq-eqb st.id 1 (g.id (eqb-true st.class 1 e))
         by false e = refl
 
-    registers-fit : registers_fit pages st ≡ true
+    registers_fit_lem : registers_fit pages st ≡ true
     unfolding registers_fit
-    registers-fit = rw (le-leb (st.first + 4) (4096 * pages) g.first) (by (eqb st.class 2) refl)
+    registers_fit_lem = rw (le-leb (st.first + 4) (4096 * pages) g.first) (by (eqb st.class 2) refl)
       where
         by : (two : Bool) → eqb st.class 2 ≡ two → cond two true (in_space pages st.second && in_space pages st.third) ≡ true
         by true e = refl
@@ -61,9 +61,9 @@ record Passed (pages : ℕ) (seen : List ℕ) (st : Structure) (sized clear : Bo
   good : GoodStructure pages st
 
 module _ {A : Type 0} (pages : ℕ) (seen : List ℕ) (st : Structure) (sized clear : Bool) (rest : Reply A) where
-  structure-only : {a : A} → structure_checks pages seen st sized clear rest ≡ given a → Passed pages seen st sized clear × (rest ≡ given a)
+  structure_only : {a : A} → structure_checks pages seen st sized clear rest ≡ given a → Passed pages seen st sized clear × (rest ≡ given a)
   unfolding structure_checks
-  structure-only e =
+  structure_only e =
       let g1 = past sized _ _ _ e in
       let g2 = past (leb st.class 2) _ _ _ g1.1 in
       let g3 = past (fresh seen st.class) _ _ _ g2.1 in
@@ -72,25 +72,25 @@ module _ {A : Type 0} (pages : ℕ) (seen : List ℕ) (st : Structure) (sized cl
       let g6 = past (registers_fit pages st) _ _ _ g5.1 in
       (record { long = g1.0; new = g3.0; zero = g4.0; good = good pages st (leb-true st.class 2 g2.0) g5.0 g6.0 }, g6.1)
 
-  structure-all : Passed pages seen st sized clear → structure_checks pages seen st sized clear rest ≡ rest
+  structure_all : Passed pages seen st sized clear → structure_checks pages seen st sized clear rest ≡ rest
   unfolding structure_checks
-  structure-all p =
+  structure_all p =
       let g = p.good in
       passed _ _ _ _ p.long ∙ passed _ _ _ _ (le-leb _ _ g.type) ∙ passed _ _ _ _ p.new ∙ passed _ _ _ _ p.zero
-      ∙ passed _ _ _ _ (id-fits pages st g) ∙ passed _ _ _ _ (registers-fit pages st g)
+      ∙ passed _ _ _ _ (id_fits_lem pages st g) ∙ passed _ _ _ _ (registers_fit_lem pages st g)
 
 -- a type that differs from those seen
-new-one : (a k : ℕ) → (a ≡ k → ⊥) → fresh (a ∷ []) k ≡ true
+new_one : (a k : ℕ) → (a ≡ k → ⊥) → fresh (a ∷ []) k ≡ true
 unfolding fresh
-new-one a k n = rw (ne_eqb a k n)
+new_one a k n = rw (ne_eqb a k n)
 
 new_two : (a b k : ℕ) → (a ≡ k → ⊥) → (b ≡ k → ⊥) → fresh (a ∷ b ∷ []) k ≡ true
 unfolding fresh
 new_two a b k n m = rw (ne_eqb a k n, ne_eqb b k m)
 
-new-head : (a k : ℕ) (others : List ℕ) → fresh (a ∷ others) k ≡ true → (a ≡ k → ⊥) × (fresh others k ≡ true)
+new_head : (a k : ℕ) (others : List ℕ) → fresh (a ∷ others) k ≡ true → (a ≡ k → ⊥) × (fresh others k ≡ true)
 unfolding fresh
-new-head a k others e = let g = (and-eq-true_iff (not (eqb a k)) _).0 e in (eqb-false a k (not-true (eqb a k) g.0), g.1)
+new_head a k others e = let g = (and-eq-true_iff (not (eqb a k)) _).0 e in (eqb-false a k (not-true (eqb a k) g.0), g.1)
 
 -- three structures' checks
 record AllPassed (pages : ℕ) (a b c : Structure) (sized clear : ℕ → Bool) : Type 0 where
@@ -99,70 +99,70 @@ record AllPassed (pages : ℕ) (a b c : Structure) (sized clear : ℕ → Bool) 
   third : Passed pages (a.class ∷ b.class ∷ []) c (sized 2) (clear 2)
 
 module _ {A : Type 0} (pages : ℕ) (a b c : Structure) (sized clear : ℕ → Bool) (rest : Reply A) where
-  structures-only : {x : A} → structures_checks pages a b c sized clear rest ≡ given x → AllPassed pages a b c sized clear × (rest ≡ given x)
+  structures_only : {x : A} → structures_checks pages a b c sized clear rest ≡ given x → AllPassed pages a b c sized clear × (rest ≡ given x)
   unfolding structures_checks
-  structures-only e =
-      let g1 = structure-only pages [] a _ _ _ e in
-      let g2 = structure-only pages (a.class ∷ []) b _ _ _ g1.1 in
-      let g3 = structure-only pages (a.class ∷ b.class ∷ []) c _ _ _ g2.1 in
+  structures_only e =
+      let g1 = structure_only pages [] a _ _ _ e in
+      let g2 = structure_only pages (a.class ∷ []) b _ _ _ g1.1 in
+      let g3 = structure_only pages (a.class ∷ b.class ∷ []) c _ _ _ g2.1 in
       (record { first = g1.0; second = g2.0; third = g3.0 }, g3.1)
 
-  structures-all : AllPassed pages a b c sized clear → structures_checks pages a b c sized clear rest ≡ rest
+  structures_all : AllPassed pages a b c sized clear → structures_checks pages a b c sized clear rest ≡ rest
   unfolding structures_checks
-  structures-all p = structure-all pages [] a _ _ _ p.first ∙ structure-all pages _ b _ _ _ p.second ∙ structure-all pages _ c _ _ _ p.third
+  structures_all p = structure_all pages [] a _ _ _ p.first ∙ structure_all pages _ b _ _ _ p.second ∙ structure_all pages _ c _ _ _ p.third
 
 -- a table is good exactly where its register space fits and its structures pass
 module _ (t : Table) (sized clear : ℕ → Bool) where
   abbrev Pass : Type 0
   Pass = AllPassed t.pages t.first t.second t.third sized clear
 
-  good-only : t.base % 4096 ≡ 0 → t.base + 4096 * t.pages ≤ 2 ^ 64 → Pass → GoodTable t
-  good-only aligned ends p =
-      let s = new-head t.first.class t.second.class [] p.second.new in
-      let r = new-head t.first.class t.third.class (t.second.class ∷ []) p.third.new in
-      let q = new-head t.second.class t.third.class [] r.1 in
+  good_only : t.base % 4096 ≡ 0 → t.base + 4096 * t.pages ≤ 2 ^ 64 → Pass → GoodTable t
+  good_only aligned ends p =
+      let s = new_head t.first.class t.second.class [] p.second.new in
+      let r = new_head t.first.class t.third.class (t.second.class ∷ []) p.third.new in
+      let q = new_head t.second.class t.third.class [] r.1 in
       record {
         aligned = aligned;
         ends = ends;
         first = p.first.good;
         second = p.second.good;
         third = p.third.good;
-        first-second = s.0;
-        first-third = r.0;
-        second-third = q.0;
+        first_second = s.0;
+        first_third = r.0;
+        second_third = q.0;
       }
 
   -- and where length and reserved bytes are right
   abbrev Right : ℕ → Type 0
   Right i = (sized i ≡ true) × (clear i ≡ true)
 
-  good-all : GoodTable t → Right 0 → Right 1 → Right 2 → Pass
+  good_all : GoodTable t → Right 0 → Right 1 → Right 2 → Pass
   unfolding fresh
-  good-all g p q r = record {
+  good_all g p q r = record {
     first = record { long = p.0; new = refl; zero = p.1; good = g.first };
-    second = record { long = q.0; new = new-one _ _ g.first-second; zero = q.1; good = g.second };
-    third = record { long = r.0; new = new_two _ _ _ g.first-third g.second-third; zero = r.1; good = g.third };
+    second = record { long = q.0; new = new_one _ _ g.first_second; zero = q.1; good = g.second };
+    third = record { long = r.0; new = new_two _ _ _ g.first_third g.second_third; zero = r.1; good = g.third };
   }
 
 -- a structure's bytes: length and reserved bytes
 module _ (p : List ℕ) where
-  part-only : {pages : ℕ} {seen : List ℕ} → Passed pages seen (structure_in p) (length_fits p) (reserved_zero p) → GoodPart p
+  part_only : {pages : ℕ} {seen : List ℕ} → Passed pages seen (structure_in p) (length_fits p) (reserved_zero p) → GoodPart p
   unfolding reserved_zero
-  part-only q = record {
+  part_only q = record {
     long = eqb-true (le_at 2 p 2) 20 q.long;
-    type-0 = λ e. eqb-true (le_at 4 p 4) 0 ((and-eq-true_iff (eqb (le_at 4 p 4) 0) _).0 (rw e at q.zero)).0;
-    type-1 = λ e. eqb-true (le_at 3 p 5) 0 (rw (eq-eqb (le_at 2 p 0) 1 e) at q.zero);
-    type-2 = λ e. let g = (and-eq-true_iff (eqb (le_at 4 p 4) 0) _).0 (rw e at q.zero) in (eqb-true (le_at 4 p 4) 0 g.0, eqb-true (le_at 8 p 12) 0 g.1);
+    type_0 = λ e. eqb-true (le_at 4 p 4) 0 ((and-eq-true_iff (eqb (le_at 4 p 4) 0) _).0 (rw e at q.zero)).0;
+    type_1 = λ e. eqb-true (le_at 3 p 5) 0 (rw (eq-eqb (le_at 2 p 0) 1 e) at q.zero);
+    type_2 = λ e. let g = (and-eq-true_iff (eqb (le_at 4 p 4) 0) _).0 (rw e at q.zero) in (eqb-true (le_at 4 p 4) 0 g.0, eqb-true (le_at 8 p 12) 0 g.1);
   }
 
-  part-all : GoodPart p → le_at 2 p 0 ≤ 2 → (length_fits p ≡ true) × (reserved_zero p ≡ true)
+  part_all : GoodPart p → le_at 2 p 0 ≤ 2 → (length_fits p ≡ true) × (reserved_zero p ≡ true)
   unfolding reserved_zero
-  part-all g type = (eq-eqb (le_at 2 p 2) 20 g.long, by (eqb (le_at 2 p 0) 1) (eqb (le_at 2 p 0) 2) refl refl)
+  part_all g type = (eq-eqb (le_at 2 p 2) 20 g.long, by (eqb (le_at 2 p 0) 1) (eqb (le_at 2 p 0) 2) refl refl)
     where
       by : (one two : Bool) → eqb (le_at 2 p 0) 1 ≡ one → eqb (le_at 2 p 0) 2 ≡ two → cond one (eqb (le_at 3 p 5) 0) (eqb (le_at 4 p 4) 0 && cond two (eqb (le_at 8 p 12) 0) true) ≡ true
-      by true two e f = eq-eqb (le_at 3 p 5) 0 (g.type-1 (eqb-true (le_at 2 p 0) 1 e))
-      by false true e f = let z = g.type-2 (eqb-true (le_at 2 p 0) 2 f) in rw (eq-eqb (le_at 4 p 4) 0 z.0, eq-eqb (le_at 8 p 12) 0 z.1)
-      by false false e f = let n = eqb-false (le_at 2 p 0) 1 e in let m = eqb-false (le_at 2 p 0) 2 f in rw (eq-eqb (le_at 4 p 4) 0 (g.type-0 (omega arith)))
+      by true two e f = eq-eqb (le_at 3 p 5) 0 (g.type_1 (eqb-true (le_at 2 p 0) 1 e))
+      by false true e f = let z = g.type_2 (eqb-true (le_at 2 p 0) 2 f) in rw (eq-eqb (le_at 4 p 4) 0 z.0, eq-eqb (le_at 8 p 12) 0 z.1)
+      by false false e f = let n = eqb-false (le_at 2 p 0) 1 e in let m = eqb-false (le_at 2 p 0) 2 f in rw (eq-eqb (le_at 4 p 4) 0 (g.type_0 (omega arith)))
 
 -- the 112 bytes
 abbrev sized : List ℕ → ℕ → Bool
@@ -172,9 +172,9 @@ abbrev clear : List ℕ → ℕ → Bool
 clear s i = reserved_zero (structure_part i s)
 
 module _ (s : List ℕ) (t : Table) where
-  table-only : table_of s ≡ given t → Holds s t
+  table_only : table_of s ≡ given t → Holds s t
   unfolding table_of header_checks
-  table-only e =
+  table_only e =
       let g1 = past (eqb (le_at 4 s 0) 0x54505341) _ _ _ e in
       let g2 = past (eqb (le_at 4 s 4) 112) _ _ _ g1.1 in
       let g3 = past (eqb (le_at 1 s 8) 2) _ _ _ g2.1 in
@@ -182,7 +182,7 @@ module _ (s : List ℕ) (t : Table) where
       let g5 = past (eqb (le_at 8 s 36 % 4096) 0) _ _ _ g4.1 in
       let g6 = past (leb (le_at 8 s 36 + 4096 * le_at 4 s 44) (2 ^ 64)) _ _ _ g5.1 in
       let g7 = past (eqb (le_at 4 s 48) 3) _ _ _ g6.1 in
-      let p = structures-only (le_at 4 s 44) _ _ _ (sized s) (clear s) _ g7.1 in
+      let p = structures_only (le_at 4 s 44) _ _ _ (sized s) (clear s) _ g7.1 in
       let is : t ≡ table_in s = cc in
       record {
         signature = eqb-true _ _ g1.0;
@@ -190,33 +190,33 @@ module _ (s : List ℕ) (t : Table) where
         revision = eqb-true _ _ g3.0;
         sum = eqb-true _ _ g4.0;
         count = eqb-true _ _ g7.0;
-        first = part-only (structure_part 0 s) p.0.first;
-        second = part-only (structure_part 1 s) p.0.second;
-        third = part-only (structure_part 2 s) p.0.third;
+        first = part_only (structure_part 0 s) p.0.first;
+        second = part_only (structure_part 1 s) p.0.second;
+        third = part_only (structure_part 2 s) p.0.third;
         table = is;
-        good = subst GoodTable (sym is) (good-only (table_in s) (sized s) (clear s) (eqb-true _ _ g5.0) (leb-true _ _ g6.0) p.0);
+        good = subst GoodTable (sym is) (good_only (table_in s) (sized s) (clear s) (eqb-true _ _ g5.0) (leb-true _ _ g6.0) p.0);
       }
 
-  table-all : Holds s t → table_of s ≡ given t
+  table_all : Holds s t → table_of s ≡ given t
   unfolding table_of header_checks
-  table-all h =
+  table_all h =
       let g : GoodTable (table_in s) = subst GoodTable h.table h.good in
       passed _ _ _ _ (eq-eqb _ _ h.signature) ∙ passed _ _ _ _ (eq-eqb _ _ h.long) ∙ passed _ _ _ _ (eq-eqb _ _ h.revision) ∙ passed _ _ _ _ (eq-eqb _ _ h.sum)
       ∙ passed _ _ _ _ (eq-eqb _ _ g.aligned) ∙ passed _ _ _ _ (le-leb _ _ g.ends) ∙ passed _ _ _ _ (eq-eqb _ _ h.count)
-      ∙ structures-all (le_at 4 s 44) _ _ _ (sized s) (clear s) _
-      (good-all (table_in s) (sized s) (clear s) g (part-all (structure_part 0 s) h.first g.first.type) (part-all (structure_part 1 s) h.second g.second.type) (part-all (structure_part 2 s) h.third g.third.type))
+      ∙ structures_all (le_at 4 s 44) _ _ _ (sized s) (clear s) _
+      (good_all (table_in s) (sized s) (clear s) g (part_all (structure_part 0 s) h.first g.first.type) (part_all (structure_part 1 s) h.second g.second.type) (part_all (structure_part 2 s) h.third g.third.type))
       ∙ ap given (sym h.table)
 
-pub read-acceptance : ReadAcceptance
+pub read_acceptance : ReadAcceptance
 unfolding read_of
-read-acceptance = record {
-  only = λ s t e. let g = past (leb 112 (length s)) _ _ _ e in (leb-true 112 (length s) g.0, table-only (take 112 s) t g.1);
-  all = λ s t long h. passed _ _ _ _ (le-leb 112 (length s) long) ∙ table-all (take 112 s) t h;
+read_acceptance = record {
+  only = λ s t e. let g = past (leb 112 (length s)) _ _ _ e in (leb-true 112 (length s) g.0, table_only (take 112 s) t g.1);
+  all = λ s t long h. passed _ _ _ _ (le-leb 112 (length s) long) ∙ table_all (take 112 s) t h;
 }
 
-pub rest-ignored : RestIgnored
+pub rest_ignored : RestIgnored
 unfolding read_of
-rest-ignored = record {
+rest_ignored = record {
   rest = λ s rest long.
       passed _ _ _ _ (le-leb 112 (length (s ++ rest)) (omega (arith, length-append s rest)))
       ∙ ap table_of (take_at s rest 112 long ∙ sym (take_all 112 s (omega arith)))
@@ -224,16 +224,16 @@ rest-ignored = record {
 }
 
 -- a table that is to be written
-pub admit-only : (t : Table) → admit_of t ≡ done → GoodTable t
+pub admit_only : (t : Table) → admit_of t ≡ done → GoodTable t
 unfolding admit_of
-admit-only t e =
+admit_only t e =
     let g1 = past (eqb (t.base % 4096) 0) _ _ _ e in
     let g2 = past (leb (t.base + 4096 * t.pages) (2 ^ 64)) _ _ _ g1.1 in
-    let p = structures-only t.pages t.first t.second t.third (λ _. true) (λ _. true) _ g2.1 in
-    good-only t (λ _. true) (λ _. true) (eqb-true _ _ g1.0) (leb-true _ _ g2.0) p.0
+    let p = structures_only t.pages t.first t.second t.third (λ _. true) (λ _. true) _ g2.1 in
+    good_only t (λ _. true) (λ _. true) (eqb-true _ _ g1.0) (leb-true _ _ g2.0) p.0
 
-pub admit-all : (t : Table) → GoodTable t → admit_of t ≡ done
+pub admit_all : (t : Table) → GoodTable t → admit_of t ≡ done
 unfolding admit_of
-admit-all t g =
+admit_all t g =
     passed _ _ _ _ (eq-eqb _ _ g.aligned) ∙ passed _ _ _ _ (le-leb _ _ g.ends)
-    ∙ structures-all t.pages _ _ _ (λ _. true) (λ _. true) _ (good-all t (λ _. true) (λ _. true) g (refl, refl) (refl, refl) (refl, refl))
+    ∙ structures_all t.pages _ _ _ (λ _. true) (λ _. true) _ (good_all t (λ _. true) (λ _. true) g (refl, refl) (refl, refl) (refl, refl))

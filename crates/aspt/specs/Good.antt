@@ -27,16 +27,16 @@ pub record GoodTable (t : Table) : Type 0 where
   pub first : GoodStructure t.pages t.first
   pub second : GoodStructure t.pages t.second
   pub third : GoodStructure t.pages t.third
-  pub first-second : t.first.class ≡ t.second.class → ⊥
-  pub first-third : t.first.class ≡ t.third.class → ⊥
-  pub second-third : t.second.class ≡ t.third.class → ⊥
+  pub first_second : t.first.class ≡ t.second.class → ⊥
+  pub first_third : t.first.class ≡ t.third.class → ⊥
+  pub second_third : t.second.class ≡ t.third.class → ⊥
 
 -- a structure's bytes with its length, and with zero in the reserved bytes of its type
 pub record GoodPart (p : List ℕ) : Type 0 where
   pub long : get structure.whole_length p 0 ≡ structure_length
-  pub type-0 : get structure.class p 0 ≡ 0 → get structure.reserved4 p 0 ≡ 0
-  pub type-1 : get structure.class p 0 ≡ 1 → get structure.reserved5 p 0 ≡ 0
-  pub type-2 : get structure.class p 0 ≡ 2 → (get structure.reserved4 p 0 ≡ 0) × (get structure.reserved12 p 0 ≡ 0)
+  pub type_0 : get structure.class p 0 ≡ 0 → get structure.reserved4 p 0 ≡ 0
+  pub type_1 : get structure.class p 0 ≡ 1 → get structure.reserved5 p 0 ≡ 0
+  pub type_2 : get structure.class p 0 ≡ 2 → (get structure.reserved4 p 0 ≡ 0) × (get structure.reserved12 p 0 ≡ 0)
 
 -- the 112 bytes s hold the table t
 pub record Holds (s : List ℕ) (t : Table) : Type 0 where

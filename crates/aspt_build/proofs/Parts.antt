@@ -11,7 +11,7 @@ use borrow.Author.Tests.{eq-eqb, eqb-true, eqb-false}
 use Rattle.le.specs.Le.{le_at, Bytes, bytes_of}
 use Rattle.le.specs.Back.{Held, Fits}
 use Rattle.le.proofs.Laws.{le_split}
-use Rattle.le.proofs.Numbers.{held, held-again}
+use Rattle.le.proofs.Numbers.{held, held_again}
 use Rattle.reply.specs.Reply.{Reply}
 use Rattle.reply.specs.Scan.{All}
 use Rattle.aspt.specs.Rules.{id_fits, in_space, registers_fit, structure_checks, structures_checks}
@@ -20,7 +20,7 @@ use Rattle.aspt_build.specs.Write.{own_of, structure_fields, structure_bytes}
 use Rattle.aspt.specs.Good.{GoodPart}
 use Rattle.aspt_build.specs.Back.{NarrowStructure}
 use Rattle.aspt.specs.declared.Structure.{Structure}
-use Rattle.aspt_build.proofs.Written.{structure-long}
+use Rattle.aspt_build.proofs.Written.{structure_long}
 
 either : (b : Bool) (x y n : ℕ) → x < n → y < n → cond b x y < n
 either true x y n p q = p
@@ -88,33 +88,33 @@ found_back st narrow =
 
 -- the fields that the type lacks have no part in the checks
 module _ {A : Type 0} (pages : ℕ) (seen : List ℕ) (st : Structure) (rest : Reply A) where
-  own-id : id_fits (own_of st) ≡ id_fits st
+  own_id : id_fits (own_of st) ≡ id_fits st
   unfolding id_fits own_of
-  own-id = by (eqb st.class 1)
+  own_id = by (eqb st.class 1)
     where
       by : (b : Bool) → cond b (eqb (cond b st.id 0) 1) true ≡ cond b (eqb st.id 1) true
       by true = refl
       by false = refl
 
-  own-registers : registers_fit pages (own_of st) ≡ registers_fit pages st
+  own_registers : registers_fit pages (own_of st) ≡ registers_fit pages st
   unfolding registers_fit own_of
-  own-registers = by (eqb st.class 2)
+  own_registers = by (eqb st.class 2)
     where
       by : (b : Bool) → (in_space pages st.first && cond b true (in_space pages (cond b 0 st.second) && in_space pages (cond b 0 st.third)))
           ≡ (in_space pages st.first && cond b true (in_space pages st.second && in_space pages st.third))
       by true = refl
       by false = refl
 
-  pub own-checks : structure_checks pages seen (own_of st) true true rest ≡ structure_checks pages seen st true true rest
+  pub own_checks : structure_checks pages seen (own_of st) true true rest ≡ structure_checks pages seen st true true rest
   unfolding structure_checks own_of
-  own-checks = rw (own-id, own-registers)
+  own_checks = rw (own_id, own_registers)
 
-pub three-own : {A : Type 0} (pages : ℕ) (a b c : Structure) (rest : Reply A) →
+pub three_own : {A : Type 0} (pages : ℕ) (a b c : Structure) (rest : Reply A) →
     structures_checks pages (own_of a) (own_of b) (own_of c) (λ _. true) (λ _. true) rest ≡ structures_checks pages a b c (λ _. true) (λ _. true) rest
 unfolding structures_checks own_of
-three-own pages a b c rest =
-    own-checks pages [] a _
-    ∙ ap (structure_checks pages [] a true true) (own-checks pages (a.class ∷ []) b _ ∙ ap (structure_checks pages (a.class ∷ []) b true true) (own-checks pages (a.class ∷ b.class ∷ []) c rest))
+three_own pages a b c rest =
+    own_checks pages [] a _
+    ∙ ap (structure_checks pages [] a true true) (own_checks pages (a.class ∷ []) b _ ∙ ap (structure_checks pages (a.class ∷ []) b true true) (own_checks pages (a.class ∷ b.class ∷ []) c rest))
 
 -- a good structure's bytes
 module _ (p : List ℕ) (good : GoodPart p) (type : le_at 2 p 0 ≤ 2) where
@@ -123,21 +123,21 @@ module _ (p : List ℕ) (good : GoodPart p) (type : le_at 2 p 0 ≤ 2) where
   four n = by (eqb (le_at 2 p 0) 2) refl
     where
       by : (two : Bool) → eqb (le_at 2 p 0) 2 ≡ two → le_at 4 p 4 ≡ 0
-      by true e = (good.type-2 (eqb-true _ _ e)).0
-      by false e = good.type-0 (let m = eqb-false (le_at 2 p 0) 2 e in omega arith)
+      by true e = (good.type_2 (eqb-true _ _ e)).0
+      by false e = good.type_0 (let m = eqb-false (le_at 2 p 0) 2 e in omega arith)
 
   -- in every type those from 5 to 7 are
   five : le_at 3 p 5 ≡ 0
   five = by (eqb (le_at 2 p 0) 1) refl
     where
       by : (one : Bool) → eqb (le_at 2 p 0) 1 ≡ one → le_at 3 p 5 ≡ 0
-      by true e = good.type-1 (eqb-true _ _ e)
+      by true e = good.type_1 (eqb-true _ _ e)
       by false e = omega (arith, le_split 1 3 p 4, four (eqb-false (le_at 2 p 0) 1 e))
 
   -- what it holds is what its type has
-  pub own-again : own_of (structure_in p) ≡ structure_in p
+  pub own_again : own_of (structure_in p) ≡ structure_in p
   unfolding own_of
-  own-again =
+  own_again =
       λ i. record {
         class = le_at 2 p 0;
         id = id (eqb (le_at 2 p 0) 1) refl i;
@@ -151,18 +151,18 @@ module _ (p : List ℕ) (good : GoodPart p) (type : le_at 2 p 0 ≤ 2) where
       id false e = omega (arith, le_split 1 3 p 4, four (eqb-false (le_at 2 p 0) 1 e))
 
       second : (two : Bool) → eqb (le_at 2 p 0) 2 ≡ two → cond two 0 (le_at 4 p 12) ≡ le_at 4 p 12
-      second true e = omega (arith, le_split 4 4 p 12, (good.type-2 (eqb-true (le_at 2 p 0) 2 e)).1)
+      second true e = omega (arith, le_split 4 4 p 12, (good.type_2 (eqb-true (le_at 2 p 0) 2 e)).1)
       second false e = refl
 
       third : (two : Bool) → eqb (le_at 2 p 0) 2 ≡ two → cond two 0 (le_at 4 p 16) ≡ le_at 4 p 16
-      third true e = omega (arith, le_split 4 4 p 12, (good.type-2 (eqb-true (le_at 2 p 0) 2 e)).1)
+      third true e = omega (arith, le_split 4 4 p 12, (good.type_2 (eqb-true (le_at 2 p 0) 2 e)).1)
       third false e = refl
 
   -- it is written as it was
-  pub structure-again : Bytes p → length p ≡ 20 → structure_bytes (structure_in p) ≡ p
+  pub structure_again : Bytes p → length p ≡ 20 → structure_bytes (structure_in p) ≡ p
   unfolding structure_bytes
-  structure-again bytes long =
-      let n : length (bytes_of (structure_fields (structure_in p))) ≡ 20 = ap (λ (st : Structure). length (bytes_of (structure_fields st))) (sym own-again) ∙ structure-long (structure_in p) in
-      ap (λ (st : Structure). bytes_of (structure_fields st)) own-again
-      ∙ held-again (structure_fields (structure_in p)) p 0 bytes (omega arith) (refl, (good.long, (refl, (five, (refl, (refl, (refl, tt)))))))
+  structure_again bytes long =
+      let n : length (bytes_of (structure_fields (structure_in p))) ≡ 20 = ap (λ (st : Structure). length (bytes_of (structure_fields st))) (sym own_again) ∙ structure_long (structure_in p) in
+      ap (λ (st : Structure). bytes_of (structure_fields st)) own_again
+      ∙ held_again (structure_fields (structure_in p)) p 0 bytes (omega arith) (refl, (good.long, (refl, (five, (refl, (refl, (refl, tt)))))))
       ∙ take_all (length (bytes_of (structure_fields (structure_in p)))) p (omega arith)

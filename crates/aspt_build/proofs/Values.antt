@@ -40,9 +40,9 @@ bytes =
     ∷ 1 ∷ 0 ∷ 0x14 ∷ 0 ∷ 1 ∷ 0 ∷ 0 ∷ 0 ∷ 0x20 ∷ 0 ∷ 0 ∷ 0 ∷ 0x24 ∷ 0 ∷ 0 ∷ 0 ∷ 0xFC ∷ 0xFF ∷ 0x0F ∷ 0 ∷ []
 
 -- fields that type 2 lacks are not written
-pub written-right : table_bytes (tried (structure 2 7 0x30 8 9)) ≡ bytes
+pub written_right : table_bytes (tried (structure 2 7 0x30 8 9)) ≡ bytes
 unfolding table_bytes bytes_with structure_bytes own_of bytes_of le_bytes sum_of
-written-right = refl
+written_right = refl
 
 -- they are read as 0, and bytes behind the table are not read
 pub read_right : read_of (bytes ++ (1 ∷ 2 ∷ [])) ≡ given (tried (structure 2 0 0x30 0 0))

@@ -7,8 +7,8 @@ use lib.ListN.{length, take, drop, length-append}
 use lib.Seq.{drop-drop}
 use borrow.Rule.Slice.PartMut.{put_mid}
 use Rattle.le.specs.Le.{le_bytes, put_bytes, bytes_of}
-use Rattle.le.proofs.Put.{put_some, put-join, bytes-split}
-use Rattle.le.proofs.Back.{put-long}
+use Rattle.le.proofs.Put.{put_some, put_join, bytes_split}
+use Rattle.le.proofs.Back.{put_long}
 use Rattle.aspt_build.specs.Write.{structure_fields, structure_bytes, identity_fields, maker_fields, space_fields, bytes_with}
 use Rattle.aspt.specs.declared.Structure.{Structure}
 use Rattle.aspt.specs.declared.Table.{Table}
@@ -18,16 +18,16 @@ pub put_next : (vs : List ℕ) (o : ℕ) {s t u : List ℕ} → u ≡ put_bytes 
 put_next vs o e f = e ∙ ap (λ (x : List ℕ). put_bytes vs x o) f
 
 -- a part that comes back with other bytes
-mid-put : (a n : ℕ) (s ys : List ℕ) → length ys ≡ n → a + n ≤ length s → put_mid a n s ys ≡ put_bytes ys s a
-mid-put a n s ys e h = sym (put_some ys s a (omega arith) ∙ append_assoc (take a s) ys _ ∙ ap (λ (x : List ℕ). take a s ++ (ys ++ x)) (ap (λ (k : ℕ). drop (a + k) s) e ∙ sym (drop-drop n a s)))
+mid_put : (a n : ℕ) (s ys : List ℕ) → length ys ≡ n → a + n ≤ length s → put_mid a n s ys ≡ put_bytes ys s a
+mid_put a n s ys e h = sym (put_some ys s a (omega arith) ∙ append_assoc (take a s) ys _ ∙ ap (λ (x : List ℕ). take a s ++ (ys ++ x)) (ap (λ (k : ℕ). drop (a + k) s) e ∙ sym (drop-drop n a s)))
 
 -- a write right behind those from the start on
 behind : (us vs s : List ℕ) (n : ℕ) → length us ≡ n → n + length vs ≤ length s → put_bytes vs (put_bytes us s 0) n ≡ put_bytes (us ++ vs) s 0
-behind us vs s n e h = ap (put_bytes vs (put_bytes us s 0)) (omega arith) ∙ put-join us vs s 0 (omega arith)
+behind us vs s n e h = ap (put_bytes vs (put_bytes us s 0)) (omega arith) ∙ put_join us vs s 0 (omega arith)
 
 -- a part right behind them
-part-behind : (us vs s : List ℕ) (n m : ℕ) → length us ≡ n → length vs ≡ m → n + m ≤ length s → put_mid n m (put_bytes us s 0) vs ≡ put_bytes (us ++ vs) s 0
-part-behind us vs s n m e f h = mid-put n m (put_bytes us s 0) vs f (rw (put-long us s 0) h) ∙ behind us vs s n e (omega arith)
+part_behind : (us vs s : List ℕ) (n m : ℕ) → length us ≡ n → length vs ≡ m → n + m ≤ length s → put_mid n m (put_bytes us s 0) vs ≡ put_bytes (us ++ vs) s 0
+part_behind us vs s n m e f h = mid_put n m (put_bytes us s 0) vs f (rw (put_long us s 0) h) ∙ behind us vs s n e (omega arith)
 
 -- three groups of fields and three parts, one behind the other
 module _ (u v w a b c s : List ℕ) (lu : length u ≡ 10) (lv : length v ≡ 26) (lw : length w ≡ 16) (la : length a ≡ 20) (lb : length b ≡ 20) (lc : length c ≡ 20) (h : 112 ≤ length s) where
@@ -39,27 +39,27 @@ module _ (u v w a b c s : List ℕ) (lu : length u ≡ 10) (lv : length v ≡ 26
       let l5 : length (u ++ v ++ w ++ a ++ b) ≡ 92 = omega (arith, length-append (u ++ v ++ w ++ a) b) in
       ap (λ (x : List ℕ). put_mid 92 20 (put_mid 72 20 (put_mid 52 20 (put_bytes w x 36) a) b) c) (behind u v s 10 lu (omega arith))
       ∙ ap (λ (x : List ℕ). put_mid 92 20 (put_mid 72 20 (put_mid 52 20 x a) b) c) (behind (u ++ v) w s 36 l2 (omega arith))
-      ∙ ap (λ (x : List ℕ). put_mid 92 20 (put_mid 72 20 x b) c) (part-behind (u ++ v ++ w) a s 52 20 l3 la (omega arith))
-      ∙ ap (λ (x : List ℕ). put_mid 92 20 x c) (part-behind (u ++ v ++ w ++ a) b s 72 20 l4 lb (omega arith))
-      ∙ part-behind (u ++ v ++ w ++ a ++ b) c s 92 20 l5 lc (omega arith)
+      ∙ ap (λ (x : List ℕ). put_mid 92 20 (put_mid 72 20 x b) c) (part_behind (u ++ v ++ w) a s 52 20 l3 la (omega arith))
+      ∙ ap (λ (x : List ℕ). put_mid 92 20 x c) (part_behind (u ++ v ++ w ++ a) b s 72 20 l4 lb (omega arith))
+      ∙ part_behind (u ++ v ++ w ++ a ++ b) c s 92 20 l5 lc (omega arith)
 
 -- all bytes have their number
-pub structure-long : (st : Structure) → length (structure_bytes st) ≡ 20
+pub structure_long : (st : Structure) → length (structure_bytes st) ≡ 20
 unfolding structure_bytes bytes_of le_bytes
-structure-long st = refl
+structure_long st = refl
 
-pub table-long : (sum : ℕ) (t : Table) → length (bytes_with sum t) ≡ 112
+pub table_long : (sum : ℕ) (t : Table) → length (bytes_with sum t) ≡ 112
 unfolding bytes_with structure_bytes bytes_of le_bytes
-table-long sum t = refl
+table_long sum t = refl
 
 module _ (sum : ℕ) (t : Table) (s : List ℕ) (h : 112 ≤ length s) where
-  pub fields-written :
+  pub fields_written :
       put_mid 92 20 (put_mid 72 20 (put_mid 52 20
       (put_bytes (bytes_of (space_fields t)) (put_bytes (bytes_of (maker_fields t)) (put_bytes (bytes_of (identity_fields sum)) s 0) 10) 36)
       (structure_bytes t.first)) (structure_bytes t.second)) (structure_bytes t.third)
       ≡ bytes_with sum t ++ drop 112 s
   unfolding bytes_with structure_bytes bytes_of le_bytes
-  fields-written =
+  fields_written =
       let u = bytes_of (identity_fields sum) in
       let v = bytes_of (maker_fields t) in
       let w = bytes_of (space_fields t) in
@@ -74,7 +74,7 @@ joined_bytes low high h =
     let x = low + 0x1_0000_0000 * high in
     let l : x % 0x1_0000_0000 ≡ low = omega arith in
     let u : x / 0x1_0000_0000 ≡ high = omega arith in
-    bytes-split 4 4 x ∙ (λ i. le_bytes 4 (l i) ++ le_bytes 4 (u i))
+    bytes_split 4 4 x ∙ (λ i. le_bytes 4 (l i) ++ le_bytes 4 (u i))
 
 -- a structure's first eight bytes as one number
 pub front_bytes : (class id : ℕ) → class < 0x1_0000 → id < 0x100 →
@@ -85,10 +85,10 @@ front_bytes class id hk hi =
     let b : id % 0x100 ≡ id = omega arith in
     let z : id / 0x100 ≡ 0 = omega arith in
     joined_bytes (class + 0x14_0000) id (omega arith)
-    ∙ (λ i. bytes-split 2 2 (class + 0x14_0000) i ++ bytes-split 1 3 id i)
+    ∙ (λ i. bytes_split 2 2 (class + 0x14_0000) i ++ bytes_split 1 3 id i)
     ∙ (λ i. (le_bytes 2 (l i) ++ le_bytes 2 (u i)) ++ (le_bytes 1 (b i) ++ le_bytes 3 (z i)))
 
-pub structure-written : (st : Structure) → st.class < 0x1_0000 → st.id < 0x100 → st.first < 0x1_0000_0000 →
+pub structure_written : (st : Structure) → st.class < 0x1_0000 → st.id < 0x100 → st.first < 0x1_0000_0000 →
     le_bytes 8 (st.class + 0x14_0000 + 0x1_0000_0000 * st.id) ++ (le_bytes 8 (st.first + 0x1_0000_0000 * st.second) ++ (le_bytes 4 st.third ++ [])) ≡ bytes_of (structure_fields st)
 unfolding bytes_of le_bytes
-structure-written st hk hi hf = λ i. front_bytes st.class st.id hk hi i ++ (joined_bytes st.first st.second hf i ++ (le_bytes 4 st.third ++ []))
+structure_written st hk hi hf = λ i. front_bytes st.class st.id hk hi i ++ (joined_bytes st.first st.second hf i ++ (le_bytes 4 st.third ++ []))

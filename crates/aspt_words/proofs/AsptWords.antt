@@ -10,25 +10,25 @@ use borrow.Author.Tests.{le-leb, lt-ltb, ltb-true}
 use Rattle.reply.specs.Reply.{Reply, given, refused, alone, guard, then}
 use Rattle.reply.proofs.ReplyLaws.{passed, failed, apart}
 use Rattle.le.specs.Le.{Bytes}
-use Rattle.le.proofs.Laws.{le-small}
+use Rattle.le.proofs.Laws.{le_small}
 use Rattle.le.proofs.Part.{part_bytes}
 use Rattle.aspt.specs.Rules.{space_checks}
 use Rattle.aspt.specs.Bytes.{structure_part, structure_in, table_in}
 use Rattle.aspt.specs.Calls.{read_of, admit_of}
 use Rattle.aspt.specs.declared.Structure.{Structure}
 use Rattle.aspt.specs.declared.Table.{Table}
-use Rattle.aspt.proofs.Accept.{read-acceptance}
+use Rattle.aspt.proofs.Accept.{read_acceptance}
 use Rattle.aspt_build.specs.Write.{own_of, write_of, written_by}
 use Rattle.aspt_build.specs.Back.{own_table}
 use Rattle.aspt_words.specs.AsptTable.{lay_table, table_from, structure_fits, table_fits, write_words, left_by, cut_table}
 use Rattle.aspt_words.specs.Taken.{FitStructure, FitTable, WordsTaken}
-use Rattle.aspt_words.proofs.Cut.{fit-only, fit_all, cut-written, cut-bytes, own-written, own-left}
+use Rattle.aspt_words.proofs.Cut.{fit_only, fit_all, cut_written, cut_bytes, own_written, own_left}
 
 -- the test of a table, as facts
 module _ (t : Table) where
-  pub table-only : table_fits t ≡ true → FitTable t
+  pub table_only : table_fits t ≡ true → FitTable t
   unfolding table_fits
-  table-only fit =
+  table_only fit =
       let g1 = (and-eq-true_iff (ltb t.oem_high (2 ^ 16)) _).0 fit in
       let g2 = (and-eq-true_iff (ltb t.oem_revision (2 ^ 32)) _).0 g1.1 in
       let g3 = (and-eq-true_iff (ltb t.creator (2 ^ 32)) _).0 g2.1 in
@@ -42,14 +42,14 @@ module _ (t : Table) where
         creator = ltb-true t.creator (2 ^ 32) g3.0;
         creator_revision = ltb-true t.creator_revision (2 ^ 32) g4.0;
         pages = ltb-true t.pages (2 ^ 32) g5.0;
-        first = fit-only t.first g6.0;
-        second = fit-only t.second g7.0;
-        third = fit-only t.third g7.1;
+        first = fit_only t.first g6.0;
+        second = fit_only t.second g7.0;
+        third = fit_only t.third g7.1;
       }
 
-  table-all : FitTable t → table_fits t ≡ true
+  table_all : FitTable t → table_fits t ≡ true
   unfolding table_fits
-  table-all fit =
+  table_all fit =
       rw (
         lt-ltb t.oem_high (2 ^ 16) fit.oem_high,
         lt-ltb t.oem_revision (2 ^ 32) fit.oem_revision,
@@ -61,11 +61,11 @@ module _ (t : Table) where
         fit_all t.third fit.third,
       )
 
-  table-wide : (FitTable t → ⊥) → table_fits t ≡ false
-  table-wide wide = by (table_fits t) refl
+  table_wide : (FitTable t → ⊥) → table_fits t ≡ false
+  table_wide wide = by (table_fits t) refl
     where
       by : (b : Bool) → table_fits t ≡ b → table_fits t ≡ false
-      by true e = absurd (wide (table-only e))
+      by true e = absurd (wide (table_only e))
       by false e = e
 
 -- what a write of lent words answers, and the bytes that it leaves, with the table as the code holds it
@@ -73,20 +73,20 @@ module _ (words s : List ℕ) (enough : 22 ≤ length words) where
   abbrev table : Table
   table = table_from words
 
-  pub words-fail : table_fits table ≡ false → refused 5 alone ≡ write_words words s
+  pub words_fail : table_fits table ≡ false → refused 5 alone ≡ write_words words s
   unfolding write_words
-  words-fail e = sym (passed _ _ _ _ (le-leb 22 (length words) enough) ∙ failed _ _ _ _ e)
+  words_fail e = sym (passed _ _ _ _ (le-leb 22 (length words) enough) ∙ failed _ _ _ _ e)
 
   module _ (fit : table_fits table ≡ true) where
-    as-table : write_of table s ≡ write_words words s
+    as_table : write_of table s ≡ write_words words s
     unfolding write_words
-    as-table = sym (passed _ _ _ _ (le-leb 22 (length words) enough) ∙ passed _ _ _ _ fit)
+    as_table = sym (passed _ _ _ _ (le-leb 22 (length words) enough) ∙ passed _ _ _ _ fit)
 
-    pub words-pass : write_of (cut_table table) s ≡ write_words words s
-    words-pass = cut-written table (table-only table fit) s ∙ as-table
+    pub words_pass : write_of (cut_table table) s ≡ write_words words s
+    words_pass = cut_written table (table_only table fit) s ∙ as_table
 
     pub words_left : written_by (cut_table table) s (write_of (cut_table table) s) ≡ left_by words s
-    words_left = cut-bytes table (table-only table fit) s ∙ ap (written_by table s) as-table
+    words_left = cut_bytes table (table_only table fit) s ∙ ap (written_by table s) as_table
 
 -- the two parts of the OEM ID
 low_part : (a b : ℕ) → a < 2 ^ 32 → (a + 2 ^ 32 * b) % 2 ^ 32 ≡ a
@@ -124,12 +124,12 @@ module _ (t : Table) (more : List ℕ) (low : t.oem_low < 2 ^ 32) where
   left s = λ i. written_by (same i) s (judged s i)
 
   taken : (s : List ℕ) → FitTable t → write_words (lay_table t ++ more) s ≡ write_of t s
-  taken s fit = judged s ∙ passed _ _ _ _ (table-all t fit)
+  taken s fit = judged s ∙ passed _ _ _ _ (table_all t fit)
 
 -- what a structure's type lacks has no part in the test
-own-fits : (st : Structure) → structure_fits (own_of st) ≡ structure_fits st
+own_fits : (st : Structure) → structure_fits (own_of st) ≡ structure_fits st
 unfolding structure_fits own_of
-own-fits st = ap (λ (b : Bool). cond (leb st.class 2) b true) (by (eqb st.class 2) (eqb st.class 1))
+own_fits st = ap (λ (b : Bool). cond (leb st.class 2) b true) (by (eqb st.class 2) (eqb st.class 1))
   where
     by : (two one : Bool) →
         (ltb st.first (2 ^ 32) && (cond two true (ltb (cond two 0 st.second) (2 ^ 32) && ltb (cond two 0 st.third) (2 ^ 32)) && cond one (ltb (cond one st.id 0) 256) true))
@@ -139,50 +139,50 @@ own-fits st = ap (λ (b : Bool). cond (leb st.class 2) b true) (by (eqb st.class
     by false true = refl
     by false false = refl
 
-own-table-fits : (t : Table) → table_fits (own_table t) ≡ table_fits t
+own_table_fits : (t : Table) → table_fits (own_table t) ≡ table_fits t
 unfolding table_fits
-own-table-fits t = rw (own-fits t.first, own-fits t.second, own-fits t.third)
+own_table_fits t = rw (own_fits t.first, own_fits t.second, own_fits t.third)
 
 module _ (t : Table) (more s : List ℕ) (low : t.oem_low < 2 ^ 32) where
-  own-judged : guard (table_fits (own_table t)) 5 (write_of (own_table t) s) ≡ guard (table_fits t) 5 (write_of t s)
-  own-judged = λ i. guard (own-table-fits t i) 5 (own-written t s i)
+  own_judged : guard (table_fits (own_table t)) 5 (write_of (own_table t) s) ≡ guard (table_fits t) 5 (write_of t s)
+  own_judged = λ i. guard (own_table_fits t i) 5 (own_written t s i)
 
   lacking : write_words (lay_table t ++ more) s ≡ write_words (lay_table (own_table t) ++ more) s
-  lacking = judged t more low s ∙ sym (judged (own_table t) more low s ∙ own-judged)
+  lacking = judged t more low s ∙ sym (judged (own_table t) more low s ∙ own_judged)
 
-  lacking-bytes : left_by (lay_table t ++ more) s ≡ left_by (lay_table (own_table t) ++ more) s
-  lacking-bytes = left t more low s ∙ sym (left (own_table t) more low s ∙ ap (written_by (own_table t) s) own-judged ∙ own-left t s (guard (table_fits t) 5 (write_of t s)))
+  lacking_bytes : left_by (lay_table t ++ more) s ≡ left_by (lay_table (own_table t) ++ more) s
+  lacking_bytes = left t more low s ∙ sym (left (own_table t) more low s ∙ ap (written_by (own_table t) s) own_judged ∙ own_left t s (guard (table_fits t) 5 (write_of t s)))
 
 -- what was read fits
-structure-read : (p : List ℕ) → Bytes p → FitStructure (structure_in p)
-structure-read p bytes = record {
-  id = λ _. le-small p bytes 1 4;
-  first = λ _. le-small p bytes 4 8;
-  second = λ _. le-small p bytes 4 12;
-  third = λ _. le-small p bytes 4 16;
+structure_read : (p : List ℕ) → Bytes p → FitStructure (structure_in p)
+structure_read p bytes = record {
+  id = λ _. le_small p bytes 1 4;
+  first = λ _. le_small p bytes 4 8;
+  second = λ _. le_small p bytes 4 12;
+  third = λ _. le_small p bytes 4 16;
 }
 
-table-read : (s : List ℕ) → Bytes s → FitTable (table_in s)
-table-read s bytes = record {
-  oem_high = le-small s bytes 2 14;
-  oem_revision = le-small s bytes 4 24;
-  creator = le-small s bytes 4 28;
-  creator_revision = le-small s bytes 4 32;
-  pages = le-small s bytes 4 44;
-  first = structure-read (structure_part 0 s) (part_bytes s 52 20 bytes);
-  second = structure-read (structure_part 1 s) (part_bytes s 72 20 bytes);
-  third = structure-read (structure_part 2 s) (part_bytes s 92 20 bytes);
+table_read : (s : List ℕ) → Bytes s → FitTable (table_in s)
+table_read s bytes = record {
+  oem_high = le_small s bytes 2 14;
+  oem_revision = le_small s bytes 4 24;
+  creator = le_small s bytes 4 28;
+  creator_revision = le_small s bytes 4 32;
+  pages = le_small s bytes 4 44;
+  first = structure_read (structure_part 0 s) (part_bytes s 52 20 bytes);
+  second = structure_read (structure_part 1 s) (part_bytes s 72 20 bytes);
+  third = structure_read (structure_part 2 s) (part_bytes s 92 20 bytes);
 }
 
-pub words-taken : WordsTaken
-words-taken = record {
+pub words_taken : WordsTaken
+words_taken = record {
   taken = λ t more s low fit. taken t more low s fit;
-  wide = λ t more s low wide. judged t more low s ∙ failed _ _ _ _ (table-wide t wide);
+  wide = λ t more s low wide. judged t more low s ∙ failed _ _ _ _ (table_wide t wide);
   lacking = lacking;
-  lacking-bytes = lacking-bytes;
+  lacking_bytes = lacking_bytes;
   read = λ bytes t more s each e.
       let lent = take 112 bytes in
       let small = part_bytes bytes 0 112 each in
-      let is = (read-acceptance.only bytes t e).1.table in
-      taken t more (subst (λ (x : Table). x.oem_low < 2 ^ 32) (sym is) (le-small lent small 4 10)) s (subst FitTable (sym is) (table-read lent small));
+      let is = (read_acceptance.only bytes t e).1.table in
+      taken t more (subst (λ (x : Table). x.oem_low < 2 ^ 32) (sym is) (le_small lent small 4 10)) s (subst FitTable (sym is) (table_read lent small));
 }

@@ -17,24 +17,24 @@ use Rattle.aspt.specs.declared.Structure.{Structure}
 use Rattle.aspt.specs.declared.Table.{Table}
 use Rattle.aspt_build.specs.Write.{own_of, structure_fields, structure_bytes, identity_fields, maker_fields, space_fields, bytes_with, checksum_of, table_bytes, write_of, written_by}
 use Rattle.aspt_build.specs.Back.{own_table}
-use Rattle.aspt_build.proofs.Parts.{own-checks, three-own}
-use Rattle.aspt_build.proofs.Accept.{write-acceptance}
+use Rattle.aspt_build.proofs.Parts.{own_checks, three_own}
+use Rattle.aspt_build.proofs.Accept.{write_acceptance}
 use Rattle.le.specs.Le.{bytes_of}
 use Rattle.aspt_words.specs.AsptTable.{structure_fits, table_fits, cut_structure, cut_table}
 use Rattle.aspt_words.specs.Taken.{FitStructure, FitTable}
 
 -- a type, as the code cuts it
-pub class-wide : (word : ℕ) → 0xFFFF < word → 65535 ≡ cond (leb word 65535) word 65535
-class-wide word h = rw (lt-leb word 65535 h)
+pub class_wide : (word : ℕ) → 0xFFFF < word → 65535 ≡ cond (leb word 65535) word 65535
+class_wide word h = rw (lt-leb word 65535 h)
 
-pub class-fits : (word : ℕ) → word ≤ 0xFFFF → word % 0x10000 ≡ cond (leb word 65535) word 65535
-class-fits word h = rw (le-leb word 65535 h) (mod-eq_of_lt (omega arith))
+pub class_fits : (word : ℕ) → word ≤ 0xFFFF → word % 0x10000 ≡ cond (leb word 65535) word 65535
+class_fits word h = rw (le-leb word 65535 h) (mod-eq_of_lt (omega arith))
 
 -- the test of a structure, as facts
 module _ (st : Structure) where
-  pub fit-only : structure_fits st ≡ true → FitStructure st
+  pub fit_only : structure_fits st ≡ true → FitStructure st
   unfolding structure_fits
-  fit-only fit = record {
+  fit_only fit = record {
     id = λ e. ltb-true st.id 256 ((and-eq-true_iff (ltb st.second (2 ^ 32) && ltb st.third (2 ^ 32)) _).0 ((and-eq-true_iff (ltb st.first (2 ^ 32)) _).0 (rw e at fit)).1).1;
     first = λ h. ltb-true st.first (2 ^ 32) ((and-eq-true_iff (ltb st.first (2 ^ 32)) _).0 (rw (le-leb st.class 2 h) at fit)).0;
     second = λ h. ltb-true st.second (2 ^ 32) ((and-eq-true_iff (ltb st.second (2 ^ 32)) _).0 (others h)).0;
@@ -69,18 +69,18 @@ module _ (st : Structure) where
 
 -- a structure that is cut keeps what its type has
 module _ (st : Structure) (fit : FitStructure st) (type : st.class ≤ 2) where
-  pub cut-class : (cut_structure st).class ≡ st.class
-  cut-class = rw (le-leb st.class 65535 (omega arith))
+  pub cut_class : (cut_structure st).class ≡ st.class
+  cut_class = rw (le-leb st.class 65535 (omega arith))
 
-  pub cut-own : own_of (cut_structure st) ≡ own_of st
+  pub cut_own : own_of (cut_structure st) ≡ own_of st
   unfolding own_of
-  cut-own =
+  cut_own =
       λ i. record {
-        class = cut-class i;
-        id = (ap (λ (k : ℕ). cond (eqb k 1) (st.id % 2 ^ 8) 0) cut-class ∙ id (eqb st.class 1) refl) i;
+        class = cut_class i;
+        id = (ap (λ (k : ℕ). cond (eqb k 1) (st.id % 2 ^ 8) 0) cut_class ∙ id (eqb st.class 1) refl) i;
         first = mod-eq_of_lt (fit.first type) i;
-        second = (ap (λ (k : ℕ). cond (eqb k 2) 0 (st.second % 2 ^ 32)) cut-class ∙ second (eqb st.class 2) refl) i;
-        third = (ap (λ (k : ℕ). cond (eqb k 2) 0 (st.third % 2 ^ 32)) cut-class ∙ third (eqb st.class 2) refl) i;
+        second = (ap (λ (k : ℕ). cond (eqb k 2) 0 (st.second % 2 ^ 32)) cut_class ∙ second (eqb st.class 2) refl) i;
+        third = (ap (λ (k : ℕ). cond (eqb k 2) 0 (st.third % 2 ^ 32)) cut_class ∙ third (eqb st.class 2) refl) i;
       }
     where
       one : eqb st.class 2 ≡ false → st.class ≤ 1
@@ -100,44 +100,44 @@ module _ (st : Structure) (fit : FitStructure st) (type : st.class ≤ 2) where
 
 -- it is judged as it was
 module _ {A : Type 0} (pages : ℕ) where
-  no-type : (seen : List ℕ) (st : Structure) (rest : Reply A) → 2 < st.class → structure_checks pages seen st true true rest ≡ refused 6 alone
+  no_type : (seen : List ℕ) (st : Structure) (rest : Reply A) → 2 < st.class → structure_checks pages seen st true true rest ≡ refused 6 alone
   unfolding structure_checks
-  no-type seen st rest h = rw (lt-leb st.class 2 h)
+  no_type seen st rest h = rw (lt-leb st.class 2 h)
 
-  cut-checks : (seen : List ℕ) (st : Structure) (rest other : Reply A) → FitStructure st → (st.class ≤ 2 → rest ≡ other) →
+  cut_checks : (seen : List ℕ) (st : Structure) (rest other : Reply A) → FitStructure st → (st.class ≤ 2 → rest ≡ other) →
       structure_checks pages seen (cut_structure st) true true rest ≡ structure_checks pages seen st true true other
-  cut-checks seen st rest other fit same = by (leb st.class 2) refl
+  cut_checks seen st rest other fit same = by (leb st.class 2) refl
     where
       by : (type : Bool) → leb st.class 2 ≡ type → structure_checks pages seen (cut_structure st) true true rest ≡ structure_checks pages seen st true true other
       by true e =
           let type = leb-true st.class 2 e in
-          sym (own-checks pages seen (cut_structure st) rest)
-          ∙ ap (λ (x : Structure). structure_checks pages seen x true true rest) (cut-own st fit type)
-          ∙ own-checks pages seen st rest
+          sym (own_checks pages seen (cut_structure st) rest)
+          ∙ ap (λ (x : Structure). structure_checks pages seen x true true rest) (cut_own st fit type)
+          ∙ own_checks pages seen st rest
           ∙ ap (structure_checks pages seen st true true) (same type)
       by false e =
           let none = leb-false st.class 2 e in
-          no-type seen (cut_structure st) rest (still (leb st.class 65535) none) ∙ sym (no-type seen st other none)
+          no_type seen (cut_structure st) rest (still (leb st.class 65535) none) ∙ sym (no_type seen st other none)
         where
           still : (narrow : Bool) → 2 < st.class → 2 < cond narrow st.class 65535
           still true h = h
           still false h = omega arith
 
-  cut-three : (a b c : Structure) (rest : Reply A) → FitStructure a → FitStructure b → FitStructure c →
+  cut_three : (a b c : Structure) (rest : Reply A) → FitStructure a → FitStructure b → FitStructure c →
       structures_checks pages (cut_structure a) (cut_structure b) (cut_structure c) (λ _. true) (λ _. true) rest ≡ structures_checks pages a b c (λ _. true) (λ _. true) rest
   unfolding structures_checks
-  cut-three a b c rest fa fb fc =
+  cut_three a b c rest fa fb fc =
       let cut = cut_structure in
-      cut-checks [] a _ _ fa
-      (λ first. ap (λ (k : ℕ). structure_checks pages (k ∷ []) (cut b) true true (structure_checks pages (k ∷ (cut b).class ∷ []) (cut c) true true rest)) (cut-class a fa first)
-      ∙ cut-checks (a.class ∷ []) b _ _ fb
-      (λ second. ap (λ (k : ℕ). structure_checks pages (a.class ∷ k ∷ []) (cut c) true true rest) (cut-class b fb second)
-      ∙ cut-checks (a.class ∷ b.class ∷ []) c rest rest fc (λ _. refl)))
+      cut_checks [] a _ _ fa
+      (λ first. ap (λ (k : ℕ). structure_checks pages (k ∷ []) (cut b) true true (structure_checks pages (k ∷ (cut b).class ∷ []) (cut c) true true rest)) (cut_class a fa first)
+      ∙ cut_checks (a.class ∷ []) b _ _ fb
+      (λ second. ap (λ (k : ℕ). structure_checks pages (a.class ∷ k ∷ []) (cut c) true true rest) (cut_class b fb second)
+      ∙ cut_checks (a.class ∷ b.class ∷ []) c rest rest fc (λ _. refl)))
 
 -- what the type has, taken twice
-own-twice : (st : Structure) → own_of (own_of st) ≡ own_of st
+own_twice : (st : Structure) → own_of (own_of st) ≡ own_of st
 unfolding own_of
-own-twice st =
+own_twice st =
     λ i. record {
       class = st.class;
       id = id (eqb st.class 1) i;
@@ -156,30 +156,30 @@ own-twice st =
 
 -- a table is written as what its types have is written
 module _ (t : Table) where
-  own-with : (sum : ℕ) → bytes_with sum (own_table t) ≡ bytes_with sum t
+  own_with : (sum : ℕ) → bytes_with sum (own_table t) ≡ bytes_with sum t
   unfolding bytes_with structure_bytes
-  own-with sum =
+  own_with sum =
       λ i. bytes_of (identity_fields sum ++ (maker_fields t ++ space_fields t))
-      ++ (bytes_of (structure_fields (own-twice t.first i)) ++ (bytes_of (structure_fields (own-twice t.second i)) ++ bytes_of (structure_fields (own-twice t.third i))))
+      ++ (bytes_of (structure_fields (own_twice t.first i)) ++ (bytes_of (structure_fields (own_twice t.second i)) ++ bytes_of (structure_fields (own_twice t.third i))))
 
-  own-bytes : table_bytes (own_table t) ≡ table_bytes t
+  own_bytes : table_bytes (own_table t) ≡ table_bytes t
   unfolding table_bytes
-  own-bytes = ap (λ (bytes : List ℕ). bytes_with ((256 - sum_of bytes % 256) % 256) (own_table t)) (own-with 0) ∙ own-with (checksum_of t)
+  own_bytes = ap (λ (bytes : List ℕ). bytes_with ((256 - sum_of bytes % 256) % 256) (own_table t)) (own_with 0) ∙ own_with (checksum_of t)
 
-  pub own-written : (s : List ℕ) → write_of (own_table t) s ≡ write_of t s
+  pub own_written : (s : List ℕ) → write_of (own_table t) s ≡ write_of t s
   unfolding write_of admit_of
-  own-written s =
+  own_written s =
       ap (λ (r : Reply Unit). then r (λ _. guard (leb table_length (length s)) 12 done))
-      (ap (space_checks t.base t.pages) (three-own t.pages t.first t.second t.third done))
+      (ap (space_checks t.base t.pages) (three_own t.pages t.first t.second t.third done))
 
-  pub own-left : (s : List ℕ) (d : Reply Unit) → written_by (own_table t) s d ≡ written_by t s d
-  own-left s (given x) = ap (λ (bytes : List ℕ). bytes ++ drop table_length s) own-bytes
-  own-left s (refused number carried) = refl
+  pub own_left : (s : List ℕ) (d : Reply Unit) → written_by (own_table t) s d ≡ written_by t s d
+  own_left s (given x) = ap (λ (bytes : List ℕ). bytes ++ drop table_length s) own_bytes
+  own_left s (refused number carried) = refl
 
 -- a table that is cut is judged and written as it was
 module _ (t : Table) (fit : FitTable t) where
-  cut-table : GoodTable t → own_table (cut_table t) ≡ own_table t
-  cut-table good =
+  cut_table_lem : GoodTable t → own_table (cut_table t) ≡ own_table t
+  cut_table_lem good =
       λ i. record {
         oem_low = t.oem_low;
         oem_high = mod-eq_of_lt fit.oem_high i;
@@ -189,23 +189,23 @@ module _ (t : Table) (fit : FitTable t) where
         creator_revision = mod-eq_of_lt fit.creator_revision i;
         base = t.base;
         pages = mod-eq_of_lt fit.pages i;
-        first = cut-own t.first fit.first good.first.type i;
-        second = cut-own t.second fit.second good.second.type i;
-        third = cut-own t.third fit.third good.third.type i;
+        first = cut_own t.first fit.first good.first.type i;
+        second = cut_own t.second fit.second good.second.type i;
+        third = cut_own t.third fit.third good.third.type i;
       }
 
-  pub cut-written : (s : List ℕ) → write_of (cut_table t) s ≡ write_of t s
+  pub cut_written : (s : List ℕ) → write_of (cut_table t) s ≡ write_of t s
   unfolding write_of admit_of
-  cut-written s =
+  cut_written s =
       ap (λ (r : Reply Unit). then r (λ _. guard (leb table_length (length s)) 12 done))
       (ap (λ (p : ℕ). space_checks t.base p (structures_checks p (cut_structure t.first) (cut_structure t.second) (cut_structure t.third) (λ _. true) (λ _. true) done)) (mod-eq_of_lt fit.pages)
-      ∙ ap (space_checks t.base t.pages) (cut-three t.pages t.first t.second t.third done fit.first fit.second fit.third))
+      ∙ ap (space_checks t.base t.pages) (cut_three t.pages t.first t.second t.third done fit.first fit.second fit.third))
 
-  pub cut-bytes : (s : List ℕ) → written_by (cut_table t) s (write_of (cut_table t) s) ≡ written_by t s (write_of t s)
-  cut-bytes s = ap (written_by (cut_table t) s) (cut-written s) ∙ by (write_of t s) refl
+  pub cut_bytes : (s : List ℕ) → written_by (cut_table t) s (write_of (cut_table t) s) ≡ written_by t s (write_of t s)
+  cut_bytes s = ap (written_by (cut_table t) s) (cut_written s) ∙ by (write_of t s) refl
     where
       by : (d : Reply Unit) → write_of t s ≡ d → written_by (cut_table t) s d ≡ written_by t s d
       by (given x) e =
-          let good = (write-acceptance.only t s e).0 in
-          ap (λ (bytes : List ℕ). bytes ++ drop table_length s) (sym (own-bytes (cut_table t)) ∙ ap table_bytes (cut-table good) ∙ own-bytes t)
+          let good = (write_acceptance.only t s e).0 in
+          ap (λ (bytes : List ℕ). bytes ++ drop table_length s) (sym (own_bytes (cut_table t)) ∙ ap table_bytes (cut_table_lem good) ∙ own_bytes t)
       by (refused number carried) e = refl

@@ -33,5 +33,5 @@ pub record WordsTaken : Type 0 where
   pub taken : (t : Table) (more s : List ℕ) → t.oem_low < 2 ^ 32 → FitTable t → write_words (lay_table t ++ more) s ≡ write_of t s
   pub wide : (t : Table) (more s : List ℕ) → t.oem_low < 2 ^ 32 → (FitTable t → ⊥) → write_words (lay_table t ++ more) s ≡ refused 5 alone
   pub lacking : (t : Table) (more s : List ℕ) → t.oem_low < 2 ^ 32 → write_words (lay_table t ++ more) s ≡ write_words (lay_table (own_table t) ++ more) s
-  pub lacking-bytes : (t : Table) (more s : List ℕ) → t.oem_low < 2 ^ 32 → left_by (lay_table t ++ more) s ≡ left_by (lay_table (own_table t) ++ more) s
+  pub lacking_bytes : (t : Table) (more s : List ℕ) → t.oem_low < 2 ^ 32 → left_by (lay_table t ++ more) s ≡ left_by (lay_table (own_table t) ++ more) s
   pub read : (bytes : List ℕ) (t : Table) (more s : List ℕ) → Bytes bytes → read_of bytes ≡ given t → write_words (lay_table t ++ more) s ≡ write_of t s

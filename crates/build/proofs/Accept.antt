@@ -10,59 +10,59 @@ use lib.ListN.{length}
 use lib.Dec.{leb, ltb, eqb}
 use Rattle.reply.specs.Reply.{Reply, given, refused, then}
 use Rattle.reply.specs.Back.{fault_by}
-use Rattle.reply.proofs.ReplyLaws.{past, then-given, one-by, apart, fault-back}
+use Rattle.reply.proofs.ReplyLaws.{past, then_given, one_by, apart, fault_back}
 use Rattle.directory.specs.Directory.{psp_kind, may_stand, directory_of, directory_by_cookie}
 use Rattle.entries.specs.Entry.{entry_of, matches, holds_in}
 use Rattle.directory.specs.Good.{GoodDirectory}
 use Rattle.entries.specs.Good.{Matches}
 use Rattle.directory.specs.declared.Directory.{Directory}
-use Rattle.reply.proofs.SomeLaws.{none_below, some-false}
-use Rattle.entries.proofs.Lowest.{match-says, match-holds}
-use Rattle.directory.proofs.Accept.{stand-fact, stand-test, there-from, there-to, cookie-acceptance}
+use Rattle.reply.proofs.SomeLaws.{none_below, some_false}
+use Rattle.entries.proofs.Lowest.{match_says, match_holds}
+use Rattle.directory.proofs.Accept.{stand_fact, stand_test, there_from, there_to, cookie_acceptance}
 use Rattle.build.specs.declared.Fields.{Fields}
 use Rattle.build.specs.declared.TotalAnswer.{TotalAnswer}
 use Rattle.build.specs.declared.TotalAnswer.TheVariants as total_answer
 use Rattle.build.specs.Write.{start_of, room_for, extend_of, told_total}
 use Rattle.build.specs.Accept.{ToldApart, Startable, Extendable, WriteAcceptance}
-use Rattle.build.proofs.Cases.{start-room, room-given}
+use Rattle.build.proofs.Cases.{start_room, room_given}
 
 total_back : Reply ℕ → TotalAnswer
 total_back (given total) = total_answer.Given total
 total_back (refused number carried) = total_answer.Refused (fault_by number carried)
 
-pub told-apart : ToldApart
+pub told_apart : ToldApart
 unfolding total_back
-told-apart = record { total = one-by told_total total_back back }
+told_apart = record { total = one_by told_total total_back back }
   where
     back : (x : TotalAnswer) → total_back (told_total x) ≡ x
     back (total_answer.Given total) = refl
-    back (total_answer.Refused why) = ap (λ w. total_answer.Refused w) (fault-back why)
+    back (total_answer.Refused why) = ap (λ w. total_answer.Refused w) (fault_back why)
 
 -- a level number from 1 to 2 is 1 or 2
-one-or-two : (level : ℕ) → 1 ≤ level → level ≤ 2 → (level ≡ 1) ⊎ (level ≡ 2)
-one-or-two level a b = by (eqb level 1) refl
+one_or_two : (level : ℕ) → 1 ≤ level → level ≤ 2 → (level ≡ 1) ⊎ (level ≡ 2)
+one_or_two level a b = by (eqb level 1) refl
   where
     by : (t : Bool) → eqb level 1 ≡ t → (level ≡ 1) ⊎ (level ≡ 2)
     by true e = inl (eqb-true level 1 e)
     by false e = inr (let n = eqb-false level 1 e in omega arith)
 
-pub start-only : (level : ℕ) (s : List ℕ) (total : ℕ) → start_of level s ≡ given total → Startable level s × (total ≡ 0)
+pub start_only : (level : ℕ) (s : List ℕ) (total : ℕ) → start_of level s ≡ given total → Startable level s × (total ≡ 0)
 unfolding start_of
-start-only level s total e =
+start_only level s total e =
     let a = past (leb 1 level) _ _ _ e in
     let b = past (leb level 2) _ _ _ a.1 in
     let r = past (leb 16 (length s)) _ _ _ b.1 in
-    (record { either = one-or-two level (leb-true _ _ a.0) (leb-true _ _ b.0); room = leb-true _ _ r.0 }, cc r.1)
+    (record { either = one_or_two level (leb-true _ _ a.0) (leb-true _ _ b.0); room = leb-true _ _ r.0 }, cc r.1)
 
-pub start-all : (level : ℕ) (s : List ℕ) → Startable level s → start_of level s ≡ given 0
-start-all level s g = sym (start-room level s (there-from level g.either) (there-to level g.either) g.room)
+pub start_all : (level : ℕ) (s : List ℕ) → Startable level s → start_of level s ≡ given 0
+start_all level s g = sym (start_room level s (there_from level g.either) (there_to level g.either) g.room)
 
-pub extend-only : (f : Fields) (s : List ℕ) (total : ℕ) → extend_of f s ≡ given total → (level : ℕ) × (n : ℕ) × Extendable f s level n × (total ≡ n + 1)
+pub extend_only : (f : Fields) (s : List ℕ) (total : ℕ) → extend_of f s ≡ given total → (level : ℕ) × (n : ℕ) × Extendable f s level n × (total ≡ n + 1)
 unfolding room_for
-extend-only f s total e =
-    let t = then-given (directory_by_cookie psp_kind 512 s 0) (room_for f s) e in
+extend_only f s total e =
+    let t = then_given (directory_by_cookie psp_kind 512 s 0) (room_for f s) e in
     let d = t.0 in
-    let g = cookie-acceptance.only psp_kind 512 s 0 d t.1 in
+    let g = cookie_acceptance.only psp_kind 512 s 0 d t.1 in
     let a = past (ltb f.location (2 ^ 62)) _ _ _ t.2 in
     let b = past (leb f.mode 3) _ _ _ a.1 in
     let p = past (may_stand psp_kind d.level f.class) _ _ _ b.1 in
@@ -74,8 +74,8 @@ extend-only f s total e =
       d.total,
       record {
         good = subst (GoodDirectory psp_kind 512 s) at g.0;
-        fits = record { location = ltb-true _ _ a.0; mode = leb-true _ _ b.0; may-stand = stand-fact psp_kind d.level f.class p.0 };
-        new = λ j l m. apart (match-says (entry_of psp_kind s (directory_of 0 d.level d.total) j) f.class f.subprogram m)
+        fits = record { location = ltb-true _ _ a.0; mode = leb-true _ _ b.0; may_stand_lem = stand_fact psp_kind d.level f.class p.0 };
+        new = λ j l m. apart (match_says (entry_of psp_kind s (directory_of 0 d.level d.total) j) f.class f.subprogram m)
             (none_below (λ j. matches (entry_of psp_kind s (directory_of 0 d.level d.total) j) f.class f.subprogram) d.total
             (ap (λ (d : Directory). holds_in psp_kind s d f.class f.subprogram) (sym at) ∙ not-true _ q.0) j l);
         few = ltb-true _ _ n.0;
@@ -84,20 +84,20 @@ extend-only f s total e =
       cc r.1,
     )
 
-pub extend-all : (f : Fields) (s : List ℕ) (level n : ℕ) → Extendable f s level n → extend_of f s ≡ given (n + 1)
-extend-all f s level n g =
+pub extend_all_lem : (f : Fields) (s : List ℕ) (level n : ℕ) → Extendable f s level n → extend_of f s ≡ given (n + 1)
+extend_all_lem f s level n g =
     let fits = g.fits in
     let l = fits.location in
-    ap (λ (r : Reply Directory). then r (room_for f s)) (cookie-acceptance.all psp_kind 512 s (directory_of 0 level n) (λ e. omega arith) g.good)
-    ∙ sym (room-given f s (directory_of 0 level n) (omega arith) fits.mode psp_kind level true refl refl (sym (stand-test psp_kind level f.class fits.may-stand)) refl false
-    (sym (some-false (λ j. matches (entry_of psp_kind s (directory_of 0 level n) j) f.class f.subprogram) n (λ j l. differs j (g.new j l)))) refl n refl g.few g.room)
+    ap (λ (r : Reply Directory). then r (room_for f s)) (cookie_acceptance.all psp_kind 512 s (directory_of 0 level n) (λ e. omega arith) g.good)
+    ∙ sym (room_given f s (directory_of 0 level n) (omega arith) fits.mode psp_kind level true refl refl (sym (stand_test psp_kind level f.class fits.may_stand_lem)) refl false
+    (sym (some_false (λ j. matches (entry_of psp_kind s (directory_of 0 level n) j) f.class f.subprogram) n (λ j l. differs j (g.new j l)))) refl n refl g.few g.room)
   where
     differs : (j : ℕ) → (Matches psp_kind s (directory_of 0 level n) f.class f.subprogram j → ⊥) → matches (entry_of psp_kind s (directory_of 0 level n) j) f.class f.subprogram ≡ false
     differs j never = by (matches (entry_of psp_kind s (directory_of 0 level n) j) f.class f.subprogram) refl
       where
         by : (b : Bool) → matches (entry_of psp_kind s (directory_of 0 level n) j) f.class f.subprogram ≡ b → b ≡ false
-        by true e = absurd (never (match-holds (entry_of psp_kind s (directory_of 0 level n) j) f.class f.subprogram e))
+        by true e = absurd (never (match_holds (entry_of psp_kind s (directory_of 0 level n) j) f.class f.subprogram e))
         by false e = refl
 
-pub write-acceptance : WriteAcceptance
-write-acceptance = record { start-only = start-only; start-all = start-all; extend-only = extend-only; extend-all = extend-all }
+pub write_acceptance : WriteAcceptance
+write_acceptance = record { start_only = start_only; start_all = start_all; extend_only = extend_only; extend_all_lem = extend_all_lem }

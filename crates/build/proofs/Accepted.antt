@@ -6,21 +6,21 @@ use native.Mathlib.Nat.{zero-add, div-one}
 use native.Mathlib.Omega.{arith}
 use lib.ListN.{length, get_or, take, drop}
 use Rattle.le.specs.Le.{le_at, le_bytes, Bytes}
-use Rattle.le.proofs.Laws.{le-small}
-use Rattle.le.proofs.Part.{part-add}
-use Rattle.le.proofs.Back.{le-again}
+use Rattle.le.proofs.Laws.{le_small}
+use Rattle.le.proofs.Part.{part_add}
+use Rattle.le.proofs.Back.{le_again}
 use Rattle.fletcher.specs.Fletcher.{fletcher_of}
 use Rattle.reply.specs.Scan.{All}
 use Rattle.directory.specs.Directory.{psp_kind, cookie_of, directory_of}
 use Rattle.entries.specs.Entry.{entry_of}
-use Rattle.entries.proofs.PartAccept.{two-bits}
+use Rattle.entries.proofs.PartAccept.{two_bits}
 use Rattle.directory.specs.Good.{GoodDirectory}
 use Rattle.directory.specs.declared.Directory.{Directory}
 use Rattle.build.specs.declared.Fields.{Fields}
 use Rattle.build.specs.Write.{entries_bytes, summed_bytes, directory_bytes}
 use Rattle.build.specs.Accept.{Fits}
 use Rattle.build.specs.Back.{Sized, blank, fields_of, entries_from, entries_of}
-use Rattle.build.proofs.Places.{entry-again, summed-numbers, directory-numbers}
+use Rattle.build.proofs.Places.{entry_again, summed_numbers, directory_numbers}
 use Rattle.build.proofs.Grow.{Sound}
 
 module _ (s : List ℕ) (d : Directory) where
@@ -49,37 +49,37 @@ module _ (s : List ℕ) (bytes : Bytes s) (level n : ℕ) (good : GoodDirectory 
   zeros : (j : ℕ) → j < n → le_at 2 s (16 + j * 16 + 2) ≡ 0
   zeros j h = sym (div-one (le_at 2 s (16 + j * 16 + 2))) ∙ (good.entries j h).reserved
 
-  entries-bytes : (m i : ℕ) → i + m ≤ n → entries_bytes (entries_from s (directory_of 0 level n) m i) ≡ take (m * 16) (drop (16 + i * 16) s)
+  entries_bytes_lem : (m i : ℕ) → i + m ≤ n → entries_bytes (entries_from s (directory_of 0 level n) m i) ≡ take (m * 16) (drop (16 + i * 16) s)
   unfolding entries_bytes entries_from
-  entries-bytes zero i h = refl
-  entries-bytes (suc m) i h =
+  entries_bytes_lem zero i h = refl
+  entries_bytes_lem (suc m) i h =
       let e = 16 + i * 16 in
       let room : 16 + n * 16 ≤ length s = good.present in
       let next : 16 + (i + 1) * 16 ≡ e + 16 = omega arith in
       let long : 16 + m * 16 ≡ suc m * 16 = omega arith in
-      rw (entry-again s bytes e (omega arith) (zeros i (omega arith)), entries-bytes m (i + 1) (omega arith), next, part-add s e 16 (m * 16), long) refl
+      rw (entry_again s bytes e (omega arith) (zeros i (omega arith)), entries_bytes_lem m (i + 1) (omega arith), next, part_add s e 16 (m * 16), long) refl
 
-  summed-bytes : summed_bytes (told_in s level n) ≡ take (8 + n * 16) (drop 8 s)
-  summed-bytes =
+  summed_bytes_lem : summed_bytes (told_in s level n) ≡ take (8 + n * 16) (drop 8 s)
+  summed_bytes_lem =
       let told = told_in s level n in
       let room : 16 + n * 16 ≤ length s = good.present in
       let number : length told ≡ le_at 4 s 8 = length_from s (directory_of 0 level n) n 0 ∙ sym good.total in
-      let one : le_bytes 4 (length told) ≡ take 4 (drop 8 s) = ap (le_bytes 4) number ∙ le-again s bytes 4 8 (omega arith) in
-      let two : le_bytes 4 0 ≡ take 4 (drop 12 s) = ap (le_bytes 4) (sym good.reserved) ∙ le-again s bytes 4 12 (omega arith) in
-      summed-numbers told ∙ rw (one, two, entries-bytes n 0 (omega arith), part-add s 8 4 4, part-add s 8 8 (n * 16)) refl
+      let one : le_bytes 4 (length told) ≡ take 4 (drop 8 s) = ap (le_bytes 4) number ∙ le_again s bytes 4 8 (omega arith) in
+      let two : le_bytes 4 0 ≡ take 4 (drop 12 s) = ap (le_bytes 4) (sym good.reserved) ∙ le_again s bytes 4 12 (omega arith) in
+      summed_numbers told ∙ rw (one, two, entries_bytes_lem n 0 (omega arith), part_add s 8 4 4, part_add s 8 8 (n * 16)) refl
 
-  pub directory-bytes : directory_bytes level (told_in s level n) ≡ take (16 + n * 16) s
-  directory-bytes =
+  pub directory_bytes_lem : directory_bytes level (told_in s level n) ≡ take (16 + n * 16) s
+  directory_bytes_lem =
       let told = told_in s level n in
       let room : 16 + n * 16 ≤ length s = good.present in
-      let one : le_bytes 4 (cookie_of psp_kind level) ≡ take 4 s = ap (le_bytes 4) (sym good.cookie) ∙ le-again s bytes 4 0 (omega arith) in
+      let one : le_bytes 4 (cookie_of psp_kind level) ≡ take 4 s = ap (le_bytes 4) (sym good.cookie) ∙ le_again s bytes 4 0 (omega arith) in
       let two : le_bytes 4 (fletcher_of (summed_bytes told)) ≡ take 4 (drop 4 s) =
-      ap (le_bytes 4) (ap fletcher_of summed-bytes ∙ sym good.checksum) ∙ le-again s bytes 4 4 (omega arith) in
+      ap (le_bytes 4) (ap fletcher_of summed_bytes_lem ∙ sym good.checksum) ∙ le_again s bytes 4 4 (omega arith) in
       let long : 8 + (8 + n * 16) ≡ 16 + n * 16 = omega arith in
-      directory-numbers level told ∙ rw (one, two, summed-bytes, part-add s 0 4 4, part-add s 0 8 (8 + n * 16), long) refl
+      directory_numbers level told ∙ rw (one, two, summed_bytes_lem, part_add s 0 4 4, part_add s 0 8 (8 + n * 16), long) refl
 
-  pub told-sound : Sound level (told_in s level n)
-  told-sound = record {
+  pub told_sound : Sound level (told_in s level n)
+  told_sound = record {
     either = good.level;
     few = omega (arith, good.few, length_from s (directory_of 0 level n) n 0);
     apart = λ i j h l same.
@@ -92,13 +92,13 @@ module _ (s : List ℕ) (bytes : Bytes s) (level n : ℕ) (good : GoodDirectory 
           sym (ap (λ (f : Fields). f.subprogram) y) ∙ same.1 ∙ ap (λ (f : Fields). f.subprogram) x,
         );
     sized = all_from s (directory_of 0 level n) Sized n 0 (λ j a b. record {
-      class = le-small s bytes 1 (16 + j * 16 + 0);
-      subprogram = le-small s bytes 1 (16 + j * 16 + 1);
-      size = le-small s bytes 4 (16 + j * 16 + 4);
+      class = le_small s bytes 1 (16 + j * 16 + 0);
+      subprogram = le_small s bytes 1 (16 + j * 16 + 1);
+      size = le_small s bytes 4 (16 + j * 16 + 4);
     });
     fits = all_from s (directory_of 0 level n) (Fits level) n 0 (λ j a b. record {
       location = omega arith;
-      mode = two-bits s (16 + j * 16);
-      may-stand = (good.entries j (omega arith)).may-stand;
+      mode = two_bits s (16 + j * 16);
+      may_stand_lem = (good.entries j (omega arith)).may_stand_lem;
     });
   }

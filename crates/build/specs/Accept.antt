@@ -20,7 +20,7 @@ pub record Startable (level : ℕ) (s : List ℕ) : Type 0 where
 pub record Fits (level : ℕ) (f : Fields) : Type 0 where
   pub location : f.location < 2 ^ 62
   pub mode : f.mode ≤ 3
-  pub may-stand : (level ≡ 1 → ⊥) → f.class ≡ 0x40 → ⊥
+  pub may_stand_lem : (level ≡ 1 → ⊥) → f.class ≡ 0x40 → ⊥
 
 -- s begins with a good directory of this level and n entries, which can be extended by f: none of them has its type and subprogram
 pub record Extendable (f : Fields) (s : List ℕ) (level n : ℕ) : Type 0 where
@@ -32,7 +32,7 @@ pub record Extendable (f : Fields) (s : List ℕ) (level n : ℕ) : Type 0 where
 
 -- a start and an extend are given exactly there, with the new total
 pub record WriteAcceptance : Type 0 where
-  pub start-only : (level : ℕ) (s : List ℕ) (total : ℕ) → start_of level s ≡ given total → Startable level s × (total ≡ 0)
-  pub start-all : (level : ℕ) (s : List ℕ) → Startable level s → start_of level s ≡ given 0
-  pub extend-only : (f : Fields) (s : List ℕ) (total : ℕ) → extend_of f s ≡ given total → (level : ℕ) × (n : ℕ) × Extendable f s level n × (total ≡ n + 1)
-  pub extend-all : (f : Fields) (s : List ℕ) (level n : ℕ) → Extendable f s level n → extend_of f s ≡ given (n + 1)
+  pub start_only : (level : ℕ) (s : List ℕ) (total : ℕ) → start_of level s ≡ given total → Startable level s × (total ≡ 0)
+  pub start_all : (level : ℕ) (s : List ℕ) → Startable level s → start_of level s ≡ given 0
+  pub extend_only : (f : Fields) (s : List ℕ) (total : ℕ) → extend_of f s ≡ given total → (level : ℕ) × (n : ℕ) × Extendable f s level n × (total ≡ n + 1)
+  pub extend_all_lem : (f : Fields) (s : List ℕ) (level n : ℕ) → Extendable f s level n → extend_of f s ≡ given (n + 1)

@@ -30,7 +30,7 @@ told_from_start (refused number carried) = refused number (met_from_start carrie
 -- the bytes before a directory have no part in it, nor has their number: what is answered at o is what is answered at the start of the bytes from o on
 pub record ReadAlone : Type 0 where
   pub directory : (kind : Kind) (limit level : ℕ) (image : List ℕ) (o : ℕ) → directory_at kind limit level (drop o image) 0 ≡ told_from_start (directory_at kind limit level image o)
-  pub by-cookie : (kind : Kind) (limit : ℕ) (image : List ℕ) (o : ℕ) → directory_by_cookie kind limit (drop o image) 0 ≡ told_from_start (directory_by_cookie kind limit image o)
+  pub by_cookie : (kind : Kind) (limit : ℕ) (image : List ℕ) (o : ℕ) → directory_by_cookie kind limit (drop o image) 0 ≡ told_from_start (directory_by_cookie kind limit image o)
   pub entry : (kind : Kind) (image : List ℕ) (d : Directory) (i : ℕ) → entry_in kind (drop d.place.0 image) (from_start d) i ≡ entry_in kind image d i
 
 -- how many bytes a PSP directory takes: 16, and 16 for each entry
@@ -61,7 +61,7 @@ pub record AcceptedAgain : Type 0 where
   -- at an offset: of the level asked for, or of the level that its cookie names
   pub at : (level : ℕ) (image : List ℕ) (o : ℕ) (d : Directory) → Bytes image → directory_at psp_kind 512 level image o ≡ given d →
       (d.place.0 ≡ o) × (d.level ≡ level) × WrittenAgain image d
-  pub by-cookie : (image : List ℕ) (o : ℕ) (d : Directory) → Bytes image → directory_by_cookie psp_kind 512 image o ≡ given d → (d.place.0 ≡ o) × WrittenAgain image d
+  pub by_cookie : (image : List ℕ) (o : ℕ) (d : Directory) → Bytes image → directory_by_cookie psp_kind 512 image o ≡ given d → (d.place.0 ≡ o) × WrittenAgain image d
   -- of level one by the directory pointer, or of level two by the lowest lead
   pub flash : (r : Rules) (level : ℕ) (image : List ℕ) (d : Directory) → PspRules r → Bytes image → flash_directory r level image ≡ given d → (d.level ≡ level) × WrittenAgain image d
   -- of level two by any lead, as the lookup in the whole image enters it

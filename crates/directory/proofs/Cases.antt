@@ -17,14 +17,14 @@ use Rattle.directory.specs.declared.Directory.{Directory}
 module _ (kind : Kind) (limit : ℕ) (s : List ℕ) (o found : ℕ) (is : found ≡ le_at 4 s (o + 0)) (head : o + 16 ≤ length s) where
   -- of the level asked for
   module _ (level cookie : ℕ) (named : cookie ≡ cookie_of kind level) where
-    pub at-signature : (found ≡ cookie → ⊥) → refused 2 (in_header level o) ≡ directory_checks kind limit level s o
+    pub at_signature : (found ≡ cookie → ⊥) → refused 2 (in_header level o) ≡ directory_checks kind limit level s o
     unfolding directory_checks
-    at-signature other = sym (passed _ _ _ _ (le-leb _ _ head) ∙ failed _ _ _ _ (ne_eqb _ _ (λ e. other (is ∙ e ∙ sym named))))
+    at_signature other = sym (passed _ _ _ _ (le-leb _ _ head) ∙ failed _ _ _ _ (ne_eqb _ _ (λ e. other (is ∙ e ∙ sym named))))
 
     module _ (same : found ≡ cookie) (n : ℕ) (counted : n ≡ total_at s o) where
-      pub at-limits : limit < n → refused 3 (in_header level o) ≡ directory_checks kind limit level s o
+      pub at_limits : limit < n → refused 3 (in_header level o) ≡ directory_checks kind limit level s o
       unfolding directory_checks
-      at-limits many =
+      at_limits many =
           sym (passed _ _ _ _ (le-leb _ _ head) ∙ passed _ _ _ _ (eq-eqb _ _ (sym is ∙ same ∙ named)) ∙ failed _ _ _ _ (lt-leb (total_at s o) limit (omega (arith, counted))))
 
       module _ (few : n ≤ limit) where
@@ -34,10 +34,10 @@ module _ (kind : Kind) (limit : ℕ) (s : List ℕ) (o found : ℕ) (is : found 
             sym (passed _ _ _ _ (le-leb _ _ head) ∙ passed _ _ _ _ (eq-eqb _ _ (sym is ∙ same ∙ named)) ∙ passed _ _ _ _ (le-leb (total_at s o) limit (omega (arith, counted)))
             ∙ failed _ _ _ _ (lt-leb (entry_place kind o (total_at s o)) (length s) (omega (arith, ap (λ (k : ℕ). k * kind.entry) counted))))
 
-        pub at-sealed : o + 16 + n * kind.entry ≤ length s → (r : Reply Directory) →
+        pub at_sealed : o + 16 + n * kind.entry ≤ length s → (r : Reply Directory) →
             r ≡ check (eqb (le_at 4 s (o + 4)) (checksum_at kind s o n)) 4 (in_header level o) (check (eqb (le_at 4 s (o + 12)) 0) 5 (in_header level o) (entries_at kind level s o n)) → r ≡ directory_checks kind limit level s o
         unfolding directory_checks
-        at-sealed present r h =
+        at_sealed present r h =
             h ∙ ap (λ (k : ℕ). check (eqb (le_at 4 s (o + 4)) (checksum_at kind s o k)) 4 (in_header level o) (check (eqb (le_at 4 s (o + 12)) 0) 5 (in_header level o) (entries_at kind level s o k))) counted
             ∙ sym (passed _ _ _ _ (le-leb _ _ head) ∙ passed _ _ _ _ (eq-eqb _ _ (sym is ∙ same ∙ named)) ∙ passed _ _ _ _ (le-leb (total_at s o) limit (omega (arith, counted)))
             ∙ passed _ _ _ _ (le-leb (entry_place kind o (total_at s o)) (length s) (omega (arith, ap (λ (k : ℕ). k * kind.entry) counted))))
@@ -52,6 +52,6 @@ module _ (kind : Kind) (limit : ℕ) (s : List ℕ) (o found : ℕ) (is : found 
     unfolding directory_by_cookie
     by_two e r h = rw (le-leb (o + 16) (length s) head, ne_eqb (le_at 4 s (o + 0)) kind.one (λ q. other (is ∙ q)), eq-eqb (le_at 4 s (o + 0)) kind.two (sym is ∙ e)) h
 
-    pub by-neither : (found ≡ kind.two → ⊥) → refused 2 (in_header 0 o) ≡ directory_by_cookie kind limit s o
+    pub by_neither : (found ≡ kind.two → ⊥) → refused 2 (in_header 0 o) ≡ directory_by_cookie kind limit s o
     unfolding directory_by_cookie
-    by-neither n = rw (le-leb (o + 16) (length s) head, ne_eqb (le_at 4 s (o + 0)) kind.one (λ q. other (is ∙ q)), ne_eqb (le_at 4 s (o + 0)) kind.two (λ q. n (is ∙ q)))
+    by_neither n = rw (le-leb (o + 16) (length s) head, ne_eqb (le_at 4 s (o + 0)) kind.one (λ q. other (is ∙ q)), ne_eqb (le_at 4 s (o + 0)) kind.two (λ q. n (is ∙ q)))

@@ -9,9 +9,9 @@ use borrow.Author.Tests.{eqb-true, eqb-false, not-true, eq-eqb, ne_eqb}
 use lib.ListN.{get_or}
 use lib.Dec.{eqb}
 use Rattle.le.specs.Le.{le_at, Bytes}
-use Rattle.le.proofs.Laws.{le_split, le-small}
+use Rattle.le.proofs.Laws.{le_split, le_small}
 use Rattle.reply.proofs.ReplyLaws.{apart}
-use Rattle.reply.proofs.SomeLaws.{some_same, some-false, none_below}
+use Rattle.reply.proofs.SomeLaws.{some_same, some_false, none_below}
 use Rattle.marks.specs.Marks.{bit_of, kept_as}
 use Rattle.marks.proofs.Marks.{Marks}
 use Rattle.directory.specs.Directory.{entry_place, same_entry, repeats_earlier, may_repeat}
@@ -21,23 +21,23 @@ use Rattle.directory.specs.declared.Kind.{Kind}
 
 -- what the first four bytes of entry i tell
 module _ (kind : Kind) (s : List ℕ) (o : ℕ) (bytes : Bytes s) where
-  head-parts : (i : ℕ) → head_at kind s o i ≡ le_at 1 s (entry_place kind o i + 0) + 256 * le_at 1 s (entry_place kind o i + 1) + 65536 * le_at 2 s (entry_place kind o i + 2)
-  head-parts i = le_split 2 2 s (entry_place kind o i) ∙ ap (λ (x : ℕ). x + 65536 * le_at 2 s (entry_place kind o i + 2)) (two (entry_place kind o i))
+  head_parts : (i : ℕ) → head_at kind s o i ≡ le_at 1 s (entry_place kind o i + 0) + 256 * le_at 1 s (entry_place kind o i + 1) + 65536 * le_at 2 s (entry_place kind o i + 2)
+  head_parts i = le_split 2 2 s (entry_place kind o i) ∙ ap (λ (x : ℕ). x + 65536 * le_at 2 s (entry_place kind o i + 2)) (two (entry_place kind o i))
     where
       two : (e : ℕ) → le_at 2 s e ≡ le_at 1 s (e + 0) + 256 * le_at 1 s (e + 1)
       two e = le_split 1 1 s e ∙ ap (λ (x : ℕ). le_at 1 s x + 256 * le_at 1 s (e + 1)) (sym (add-zero e))
 
-  pub head-reserved : (i : ℕ) → head_at kind s o i / 65536 ≡ le_at 2 s (entry_place kind o i + 2)
-  head-reserved i = let a = le-small s bytes 1 (entry_place kind o i + 0) in let b = le-small s bytes 1 (entry_place kind o i + 1) in omega (arith, head-parts i)
+  pub head_reserved : (i : ℕ) → head_at kind s o i / 65536 ≡ le_at 2 s (entry_place kind o i + 2)
+  head_reserved i = let a = le_small s bytes 1 (entry_place kind o i + 0) in let b = le_small s bytes 1 (entry_place kind o i + 1) in omega (arith, head_parts i)
 
-  pub head-type : (i : ℕ) → head_at kind s o i % 256 ≡ le_at 1 s (entry_place kind o i + 0)
-  head-type i = let a = le-small s bytes 1 (entry_place kind o i + 0) in omega (arith, head-parts i)
+  pub head_type : (i : ℕ) → head_at kind s o i % 256 ≡ le_at 1 s (entry_place kind o i + 0)
+  head_type i = let a = le_small s bytes 1 (entry_place kind o i + 0) in omega (arith, head_parts i)
 
-  pub head-pair : (i : ℕ) → (head_at kind s o i % 65536) ≡ le_at 1 s (entry_place kind o i + 0) + 256 * le_at 1 s (entry_place kind o i + 1)
-  head-pair i = let a = le-small s bytes 1 (entry_place kind o i + 0) in let b = le-small s bytes 1 (entry_place kind o i + 1) in omega (arith, head-parts i)
+  pub head_pair : (i : ℕ) → (head_at kind s o i % 65536) ≡ le_at 1 s (entry_place kind o i + 0) + 256 * le_at 1 s (entry_place kind o i + 1)
+  head_pair i = let a = le_small s bytes 1 (entry_place kind o i + 0) in let b = le_small s bytes 1 (entry_place kind o i + 1) in omega (arith, head_parts i)
 
-  same-pair : (i j : ℕ) → eqb ((head_at kind s o j % 65536)) ((head_at kind s o i % 65536)) ≡ same_entry kind s o i j
-  same-pair i j = ap₂ eqb (head-pair j) (head-pair i) ∙ both (le_at 1 s (entry_place kind o j + 0)) (le_at 1 s (entry_place kind o i + 0)) (le_at 1 s (entry_place kind o j + 1)) (le_at 1 s (entry_place kind o i + 1)) (le-small s bytes 1 _) (le-small s bytes 1 _)
+  same_pair : (i j : ℕ) → eqb ((head_at kind s o j % 65536)) ((head_at kind s o i % 65536)) ≡ same_entry kind s o i j
+  same_pair i j = ap₂ eqb (head_pair j) (head_pair i) ∙ both (le_at 1 s (entry_place kind o j + 0)) (le_at 1 s (entry_place kind o i + 0)) (le_at 1 s (entry_place kind o j + 1)) (le_at 1 s (entry_place kind o i + 1)) (le_small s bytes 1 _) (le_small s bytes 1 _)
     where
       both : (t u a b : ℕ) → t < 256 → u < 256 → eqb (t + 256 * a) (u + 256 * b) ≡ (eqb t u && eqb a b)
       both t u a b x y = by (eqb t u) refl (eqb a b) refl
@@ -48,33 +48,33 @@ module _ (kind : Kind) (s : List ℕ) (o : ℕ) (bytes : Bytes s) where
           by false e q f = ne_eqb (t + 256 * a) (u + 256 * b) (λ z. eqb-false t u e (omega arith))
 
   -- by the marks of the types and subprograms before it
-  pub mark-tells : (words i p w : ℕ) (marks : List ℕ) → p ≡ head_at kind s o i % 65536 → p < words * 64 → w ≡ p / 64 → Marks words (λ j. head_at kind s o j % 65536) i marks →
+  pub mark_tells : (words i p w : ℕ) (marks : List ℕ) → p ≡ head_at kind s o i % 65536 → p < words * 64 → w ≡ p / 64 → Marks words (λ j. head_at kind s o j % 65536) i marks →
       bit_of (kept_as (get_or marks w 0)) (p % 64) ≡ repeats_earlier kind s o i
-  mark-tells words i p w marks is small at m =
-      ap (λ (x : ℕ). bit_of (kept_as (get_or marks x 0)) (p % 64)) at ∙ m p small ∙ some_same _ _ i (λ j l. ap (eqb (head_at kind s o j % 65536)) is ∙ same-pair i j)
+  mark_tells words i p w marks is small at m =
+      ap (λ (x : ℕ). bit_of (kept_as (get_or marks x 0)) (p % 64)) at ∙ m p small ∙ some_same _ _ i (λ j l. ap (eqb (head_at kind s o j % 65536)) is ∙ same_pair i j)
 
 -- the test of an entry of a directory that may not repeat
 module _ (kind : Kind) (s : List ℕ) (o i : ℕ) where
-  pub may-first : repeats_earlier kind s o i ≡ false → may_repeat kind s o i ≡ true
-  may-first e = by kind.repeats
+  pub may_first : repeats_earlier kind s o i ≡ false → may_repeat kind s o i ≡ true
+  may_first e = by kind.repeats
     where
       by : (b : Bool) → (b || not (repeats_earlier kind s o i)) ≡ true
       by true = refl
       by false = ap not e
 
-  pub may-any : kind.repeats ≡ true → may_repeat kind s o i ≡ true
-  may-any e = ap (λ (b : Bool). b || not (repeats_earlier kind s o i)) e
+  pub may_any : kind.repeats ≡ true → may_repeat kind s o i ≡ true
+  may_any e = ap (λ (b : Bool). b || not (repeats_earlier kind s o i)) e
 
-  pub may-not : kind.repeats ≡ false → repeats_earlier kind s o i ≡ true → may_repeat kind s o i ≡ false
-  may-not e r = ap₂ (λ (b q : Bool). b || not q) e r
+  pub may_not : kind.repeats ≡ false → repeats_earlier kind s o i ≡ true → may_repeat kind s o i ≡ false
+  may_not e r = ap₂ (λ (b q : Bool). b || not q) e r
 
   -- the test as a fact and back
-  pub first-fact : may_repeat kind s o i ≡ true → First kind s o i
-  first-fact e f j l a =
+  pub first_fact : may_repeat kind s o i ≡ true → First kind s o i
+  first_fact e f j l a =
       apart (ap₂ ◌&&◌ (eq-eqb _ _ a.0) (eq-eqb _ _ a.1)) (none_below (same_entry kind s o i) i (not-true _ (ap (λ (b : Bool). b || not (repeats_earlier kind s o i)) (sym f) ∙ e)) j l)
 
-  pub first-test : First kind s o i → may_repeat kind s o i ≡ true
-  first-test h = by kind.repeats refl
+  pub first_test : First kind s o i → may_repeat kind s o i ≡ true
+  first_test h = by kind.repeats refl
     where
       alike : (j : ℕ) → (b c : Bool) → eqb (le_at 1 s (entry_place kind o j + 0)) (le_at 1 s (entry_place kind o i + 0)) ≡ b → eqb (le_at 1 s (entry_place kind o j + 1)) (le_at 1 s (entry_place kind o i + 1)) ≡ c →
           (Alike kind s o i j → ⊥) → (b && c) ≡ false
@@ -84,4 +84,4 @@ module _ (kind : Kind) (s : List ℕ) (o i : ℕ) where
 
       by : (b : Bool) → kind.repeats ≡ b → (b || not (repeats_earlier kind s o i)) ≡ true
       by true q = refl
-      by false q = ap not (some-false (same_entry kind s o i) i (λ j l. alike j _ _ refl refl (h q j l)))
+      by false q = ap not (some_false (same_entry kind s o i) i (λ j l. alike j _ _ refl refl (h q j l)))

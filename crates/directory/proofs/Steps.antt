@@ -13,37 +13,37 @@ use Rattle.reply.specs.Reply.{Reply, given, refused, in_entry}
 use Rattle.reply.specs.Scan.{scan}
 use Rattle.reply.specs.Some.{some_below, first_below}
 use Rattle.reply.proofs.ReplyLaws.{passed, failed, apart}
-use Rattle.reply.proofs.ScanLaws.{scan-start, scan-end, scan-stop, scan-pass}
+use Rattle.reply.proofs.ScanLaws.{scan_start, scan_end, scan_stop, scan_pass}
 use Rattle.reply.proofs.SomeLaws.{none_below, some_same, some_first, Found, first_found}
 use Rattle.directory.specs.Directory.{class_at, reserved_zero, may_stand, repeats_earlier, may_repeat, entry_step, directory_of, entries_at}
 use Rattle.directory.specs.Looks.{head_at, flags_used, clear_below, faulty_at, bad_at, ended_at}
 use Rattle.directory.specs.declared.Kind.{Kind}
 use Rattle.directory.specs.declared.Directory.{Directory}
-use Rattle.directory.proofs.Heads.{head-reserved, head-type, may-first, may-not, may-any}
+use Rattle.directory.proofs.Heads.{head_reserved, head_type, may_first, may_not, may_any}
 
 -- an entry of n that lie in the image lies in it
-pub entry-inside : (kind : Kind) (o n i len : ℕ) → o + 16 + n * kind.entry ≤ len → i < n → o + 16 + i * kind.entry + kind.entry ≤ len
-entry-inside kind o n i len h l =
+pub entry_inside : (kind : Kind) (o n i len : ℕ) → o + 16 + n * kind.entry ≤ len → i < n → o + 16 + i * kind.entry + kind.entry ≤ len
+entry_inside kind o n i len h l =
     let a : (i + 1) * kind.entry ≤ n * kind.entry = mul-le-mul_right kind.entry (omega arith) in
     omega (arith, add-mul i 1 kind.entry)
 
 -- so do fewer
-pub fewer-inside : (kind : Kind) (o n m len : ℕ) → o + 16 + n * kind.entry ≤ len → m ≤ n → o + 16 + m * kind.entry ≤ len
-fewer-inside kind o n m len h l =
+pub fewer_inside : (kind : Kind) (o n m len : ℕ) → o + 16 + n * kind.entry ≤ len → m ≤ n → o + 16 + m * kind.entry ≤ len
+fewer_inside kind o n m len h l =
     let a : m * kind.entry ≤ n * kind.entry = mul-le-mul_right kind.entry l in
     omega arith
 
 -- at most sixteen
-pub few-flags : (used : ℕ) → flags_used used ≤ 16
-few-flags used = by (ltb used 16) refl
+pub few_flags : (used : ℕ) → flags_used used ≤ 16
+few_flags used = by (ltb used 16) refl
   where
     by : (b : Bool) → ltb used 16 ≡ b → cond b used 16 ≤ 16
     by true q = let l : used < 16 = ltb-true used 16 q in omega arith
     by false q = omega arith
 
 -- the one comparison says that the flags from bit `used` up are zero
-pub reserved-test : (used head : ℕ) → head < 2 ^ 32 → ltb head (clear_below used) ≡ eqb (bits_from used (head / 65536)) 0
-reserved-test used head small = by (ltb used 16) refl ∙ ap (λ (x : ℕ). eqb x 0) (sym (div-div-eq-div-mul head 65536 (2 ^ used)))
+pub reserved_test : (used head : ℕ) → head < 2 ^ 32 → ltb head (clear_below used) ≡ eqb (bits_from used (head / 65536)) 0
+reserved_test used head small = by (ltb used 16) refl ∙ ap (λ (x : ℕ). eqb x 0) (sym (div-div-eq-div-mul head 65536 (2 ^ used)))
   where
     below : (p : ℕ) → 0 < p → ltb head p ≡ eqb (head / p) 0
     below p pos = at (ltb head p) refl
@@ -63,89 +63,89 @@ reserved-test used head small = by (ltb used 16) refl ∙ ap (λ (x : ℕ). eqb 
         lt-ltb head (65536 * 2 ^ 16) (omega arith) ∙ sym (eq-eqb (head / (65536 * 2 ^ used)) 0 (div-eq_of_lt (let z : head < 65536 * 2 ^ used = omega arith in z)))
 
 -- neither of two
-pub or-false : (a b : Bool) → (a || b) ≡ false → (a ≡ false) × (b ≡ false)
-or-false true b e = apart refl e
-or-false false b e = (refl, e)
+pub or_false : (a b : Bool) → (a || b) ≡ false → (a ≡ false) × (b ≡ false)
+or_false true b e = apart refl e
+or_false false b e = (refl, e)
 
 -- which of two tests fails
-both-pass : (a b : Bool) → not (a && b) ≡ false → (a ≡ true) × (b ≡ true)
-both-pass true true e = (refl, refl)
-both-pass true false e = apart refl e
-both-pass false b e = apart refl e
+both_pass : (a b : Bool) → not (a && b) ≡ false → (a ≡ true) × (b ≡ true)
+both_pass true true e = (refl, refl)
+both_pass true false e = apart refl e
+both_pass false b e = apart refl e
 
-one-fails : (a b : Bool) → not (a && b) ≡ true → a ≡ true → b ≡ false
-one-fails true true e q = apart e refl
-one-fails true false e q = refl
-one-fails false b e q = apart q refl
+one_fails : (a b : Bool) → not (a && b) ≡ true → a ≡ true → b ≡ false
+one_fails true true e q = apart e refl
+one_fails true false e q = refl
+one_fails false b e q = apart q refl
 
 module _ (kind : Kind) (level : ℕ) (s : List ℕ) (o n : ℕ) (bytes : Bytes s) where
-  reserved-is : (i : ℕ) → eqb (bits_from kind.used (head_at kind s o i / 65536)) 0 ≡ reserved_zero kind s o i
-  reserved-is i = ap (λ (x : ℕ). eqb (bits_from kind.used x) 0) (head-reserved kind s o bytes i)
+  reserved_is : (i : ℕ) → eqb (bits_from kind.used (head_at kind s o i / 65536)) 0 ≡ reserved_zero kind s o i
+  reserved_is i = ap (λ (x : ℕ). eqb (bits_from kind.used x) 0) (head_reserved kind s o bytes i)
 
-  stand-is : (i : ℕ) → may_stand kind level (head_at kind s o i % 256) ≡ may_stand kind level (class_at kind s o i)
-  stand-is i = ap (may_stand kind level) (head-type kind s o bytes i)
+  stand_is : (i : ℕ) → may_stand kind level (head_at kind s o i % 256) ≡ may_stand kind level (class_at kind s o i)
+  stand_is i = ap (may_stand kind level) (head_type kind s o bytes i)
 
   -- an entry that is not at fault is passed by
   on : (i : ℕ) → faulty_at kind level s o i ≡ false → may_repeat kind s o i ≡ true → (rest : Reply Directory) → entry_step kind level s o i rest ≡ rest
   on i f m rest =
-      let g = both-pass _ _ f in
-      passed _ _ _ _ (sym (reserved-is i) ∙ g.0) ∙ passed _ _ _ _ (sym (stand-is i) ∙ g.1) ∙ passed _ _ _ _ m
+      let g = both_pass _ _ f in
+      passed _ _ _ _ (sym (reserved_is i) ∙ g.0) ∙ passed _ _ _ _ (sym (stand_is i) ∙ g.1) ∙ passed _ _ _ _ m
 
   repeated : (i : ℕ) → faulty_at kind level s o i ≡ false → may_repeat kind s o i ≡ false → (rest : Reply Directory) → entry_step kind level s o i rest ≡ refused 18 (in_entry level i o)
   repeated i f m rest =
-      let g = both-pass _ _ f in
-      passed _ _ _ _ (sym (reserved-is i) ∙ g.0) ∙ passed _ _ _ _ (sym (stand-is i) ∙ g.1) ∙ failed _ _ _ _ m
+      let g = both_pass _ _ f in
+      passed _ _ _ _ (sym (reserved_is i) ∙ g.0) ∙ passed _ _ _ _ (sym (stand_is i) ∙ g.1) ∙ failed _ _ _ _ m
 
   -- the answer of the entries from k on, where those before it are not at fault
   reach : (k : ℕ) → k ≤ n → ((j : ℕ) → j < k → faulty_at kind level s o j ≡ false) → ((j : ℕ) → j < k → may_repeat kind s o j ≡ true) →
       scan (entry_step kind level s o) (λ _. given (directory_of o level n)) (n - k) k ≡ entries_at kind level s o n
-  reach zero h f m = scan-start (entry_step kind level s o) (λ _. given (directory_of o level n)) n
+  reach zero h f m = scan_start (entry_step kind level s o) (λ _. given (directory_of o level n)) n
   reach (suc k) h f m =
       ap (λ (x : ℕ). scan (entry_step kind level s o) (λ _. given (directory_of o level n)) (n - x) x) (let e : suc k ≡ k + 1 = omega arith in e)
-      ∙ sym (scan-pass (entry_step kind level s o) (λ _. given (directory_of o level n)) n k (omega arith) (on k (f k (omega arith)) (m k (omega arith))))
+      ∙ sym (scan_pass (entry_step kind level s o) (λ _. given (directory_of o level n)) n k (omega arith) (on k (f k (omega arith)) (m k (omega arith))))
       ∙ reach k (omega arith) (λ j l. f j (omega arith)) (λ j l. m j (omega arith))
 
   -- the answer at entry k
   stop : (k number : ℕ) → k < n → ((j : ℕ) → j < k → faulty_at kind level s o j ≡ false) → ((j : ℕ) → j < k → may_repeat kind s o j ≡ true) →
       ((rest : Reply Directory) → entry_step kind level s o k rest ≡ refused number (in_entry level k o)) → refused number (in_entry level k o) ≡ entries_at kind level s o n
   stop k number h f m e =
-      sym (scan-stop (entry_step kind level s o) (λ _. given (directory_of o level n)) n k (refused number (in_entry level k o)) h e) ∙ reach k (omega arith) f m
+      sym (scan_stop (entry_step kind level s o) (λ _. given (directory_of o level n)) n k (refused number (in_entry level k o)) h e) ∙ reach k (omega arith) f m
 
   -- by the first that is at fault by itself, where those before it may stand
   ends : (end : ℕ) → end ≤ n → ((j : ℕ) → j < end → faulty_at kind level s o j ≡ false) → (end < n → faulty_at kind level s o end ≡ true) →
       ((j : ℕ) → j < end → may_repeat kind s o j ≡ true) → ended_at kind level s o n end ≡ entries_at kind level s o n
   ends end h f g m = by (ltb end n) refl
     where
-      at-end : (b : Bool) → reserved_zero kind s o end ≡ b → end < n → refused (cond b 14 5) (in_entry level end o) ≡ entries_at kind level s o n
-      at-end true q l =
-          stop end 14 l f m (λ rest. passed _ _ _ _ q ∙ failed _ _ _ _ (sym (stand-is end) ∙ one-fails _ _ (g l) (reserved-is end ∙ q)))
-      at-end false q l = stop end 5 l f m (λ rest. failed _ _ _ _ q)
+      at_end : (b : Bool) → reserved_zero kind s o end ≡ b → end < n → refused (cond b 14 5) (in_entry level end o) ≡ entries_at kind level s o n
+      at_end true q l =
+          stop end 14 l f m (λ rest. passed _ _ _ _ q ∙ failed _ _ _ _ (sym (stand_is end) ∙ one_fails _ _ (g l) (reserved_is end ∙ q)))
+      at_end false q l = stop end 5 l f m (λ rest. failed _ _ _ _ q)
 
       by : (b : Bool) → ltb end n ≡ b → cond b (refused (cond (reserved_zero kind s o end) 14 5) (in_entry level end o)) (given (directory_of o level n)) ≡ entries_at kind level s o n
-      by true q = at-end (reserved_zero kind s o end) refl (ltb-true _ _ q)
+      by true q = at_end (reserved_zero kind s o end) refl (ltb-true _ _ q)
       by false q =
-          sym (scan-end (entry_step kind level s o) (λ _. given (directory_of o level n)) n end (ltb-false end n q)) ∙ reach end h f m
+          sym (scan_end (entry_step kind level s o) (λ _. given (directory_of o level n)) n end (ltb-false end n q)) ∙ reach end h f m
 
   -- in a directory that may repeat
-  pub ends-any : (end : ℕ) → Found (faulty_at kind level s o) n end → kind.repeats ≡ true → ended_at kind level s o n end ≡ entries_at kind level s o n
-  ends-any end f r = ends end f.within f.before f.here (λ j l. may-any kind s o j r)
+  pub ends_any : (end : ℕ) → Found (faulty_at kind level s o) n end → kind.repeats ≡ true → ended_at kind level s o n end ≡ entries_at kind level s o n
+  ends_any end f r = ends end f.within f.before f.here (λ j l. may_any kind s o j r)
 
   -- none before it repeats
-  pub ends-first : (end : ℕ) → Found (faulty_at kind level s o) n end → some_below (bad_at kind level s o) end ≡ false → ended_at kind level s o n end ≡ entries_at kind level s o n
-  ends-first end f e = ends end f.within f.before f.here (λ j l. may-first kind s o j (or-false (faulty_at kind level s o j) (repeats_earlier kind s o j) (none_below (bad_at kind level s o) end e j l)).1)
+  pub ends_first : (end : ℕ) → Found (faulty_at kind level s o) n end → some_below (bad_at kind level s o) end ≡ false → ended_at kind level s o n end ≡ entries_at kind level s o n
+  ends_first end f e = ends end f.within f.before f.here (λ j l. may_first kind s o j (or_false (faulty_at kind level s o j) (repeats_earlier kind s o j) (none_below (bad_at kind level s o) end e j l)).1)
 
   -- none is at fault
-  pub ends-good : some_below (bad_at kind level s o) n ≡ false → ended_at kind level s o n n ≡ entries_at kind level s o n
-  ends-good e =
-      let good : (j : ℕ) → j < n → (faulty_at kind level s o j ≡ false) × (repeats_earlier kind s o j ≡ false) = λ j l. or-false (faulty_at kind level s o j) (repeats_earlier kind s o j) (none_below (bad_at kind level s o) n e j l) in
-      ends n (omega arith) (λ j l. (good j l).0) (λ l. absurd (let z : ⊥ = omega arith in z)) (λ j l. may-first kind s o j (good j l).1)
+  pub ends_good : some_below (bad_at kind level s o) n ≡ false → ended_at kind level s o n n ≡ entries_at kind level s o n
+  ends_good e =
+      let good : (j : ℕ) → j < n → (faulty_at kind level s o j ≡ false) × (repeats_earlier kind s o j ≡ false) = λ j l. or_false (faulty_at kind level s o j) (repeats_earlier kind s o j) (none_below (bad_at kind level s o) n e j l) in
+      ends n (omega arith) (λ j l. (good j l).0) (λ l. absurd (let z : ⊥ = omega arith in z)) (λ j l. may_first kind s o j (good j l).1)
 
   -- one before the first that is at fault by itself repeats: the first that does is told
-  pub ends-repeated : (end : ℕ) → Found (faulty_at kind level s o) n end → kind.repeats ≡ false → some_below (bad_at kind level s o) end ≡ true →
+  pub ends_repeated : (end : ℕ) → Found (faulty_at kind level s o) n end → kind.repeats ≡ false → some_below (bad_at kind level s o) end ≡ true →
       refused 18 (in_entry level (first_below (repeats_earlier kind s o) end) o) ≡ entries_at kind level s o n
-  ends-repeated end f r e =
+  ends_repeated end f r e =
       let k = first_below (repeats_earlier kind s o) end in
       let first = first_found (repeats_earlier kind s o) end in
       let repeats = some_same (repeats_earlier kind s o) (bad_at kind level s o) end (λ j l. ap (λ (b : Bool). b || repeats_earlier kind s o j) (sym (f.before j l))) ∙ e in
       let inside : k < end = ltb-true k end (sym (some_first (repeats_earlier kind s o) end) ∙ repeats) in
-      stop k 18 (let h = f.within in omega arith) (λ j l. f.before j (omega arith)) (λ j l. may-first kind s o j (first.before j l)) (repeated k (f.before k inside) (may-not kind s o k r (first.here inside)))
+      stop k 18 (let h = f.within in omega arith) (λ j l. f.before j (omega arith)) (λ j l. may_first kind s o j (first.before j l)) (repeated k (f.before k inside) (may_not kind s o k r (first.here inside)))

@@ -2,7 +2,7 @@
 use mathlib.Core.Path.{◌≡◌, refl, ap}
 use Rattle.reply.specs.Reply.{Reply, given, refused}
 use Rattle.reply.specs.Back.{fault_by}
-use Rattle.reply.proofs.ReplyLaws.{one-by, fault-back}
+use Rattle.reply.proofs.ReplyLaws.{one_by, fault_back}
 use Rattle.directory.specs.Directory.{told_directory}
 use Rattle.directory.specs.Repeat.{told_repeat}
 use Rattle.directory.specs.Good.{ToldApart}
@@ -17,22 +17,22 @@ directory_back : Reply Directory → DirectoryAnswer
 directory_back (given d) = directory_answer.Given d
 directory_back (refused number carried) = directory_answer.Refused (fault_by number carried)
 
-directory-back : (x : DirectoryAnswer) → directory_back (told_directory x) ≡ x
+directory_back_lem : (x : DirectoryAnswer) → directory_back (told_directory x) ≡ x
 unfolding directory_back
-directory-back (directory_answer.Given d) = refl
-directory-back (directory_answer.Refused why) = ap (λ w. directory_answer.Refused w) (fault-back why)
+directory_back_lem (directory_answer.Given d) = refl
+directory_back_lem (directory_answer.Refused why) = ap (λ w. directory_answer.Refused w) (fault_back why)
 
 repeated_back : Reply Repeat → RepeatAnswer
 repeated_back (given r) = repeat_answer.Given r
 repeated_back (refused number carried) = repeat_answer.Refused (fault_by number carried)
 
-repeated-back : (x : RepeatAnswer) → repeated_back (told_repeat x) ≡ x
+repeated_back_lem : (x : RepeatAnswer) → repeated_back (told_repeat x) ≡ x
 unfolding repeated_back
-repeated-back (repeat_answer.Given r) = refl
-repeated-back (repeat_answer.Refused why) = ap (λ w. repeat_answer.Refused w) (fault-back why)
+repeated_back_lem (repeat_answer.Given r) = refl
+repeated_back_lem (repeat_answer.Refused why) = ap (λ w. repeat_answer.Refused w) (fault_back why)
 
-pub told-apart : ToldApart
-told-apart = record {
-  directory = one-by told_directory directory_back directory-back;
-  repeated = one-by told_repeat repeated_back repeated-back;
+pub told_apart : ToldApart
+told_apart = record {
+  directory = one_by told_directory directory_back directory_back_lem;
+  repeated = one_by told_repeat repeated_back repeated_back_lem;
 }

@@ -19,7 +19,7 @@ pub record ToldApart : Type 0 where
 -- entry i: reserved bits zero, and no lead but in level one
 pub record GoodEntry (kind : Kind) (level : ℕ) (image : List ℕ) (o i : ℕ) : Type 0 where
   pub reserved : bits_from kind.used (get entry.flags image (entry_place kind o i)) ≡ 0
-  pub may-stand : (level ≡ 1 → ⊥) → class_at kind image o i ≡ kind.lead → ⊥
+  pub may_stand_lem : (level ≡ 1 → ⊥) → class_at kind image o i ≡ kind.lead → ⊥
 
 -- entries j and i have one type and subprogram
 abbrev pub Alike : Kind → (image : List ℕ) → (o i j : ℕ) → Type 0

@@ -18,5 +18,5 @@ pub record Independence : Type 0 where
   -- up to the end that its total tells
   pub directory : (kind : Kind) (limit level : ℕ) (image other : List ℕ) (o : ℕ) → 16 ≤ kind.entry → Agree image other o (entry_place kind o (total_at image o)) →
       directory_at kind limit level image o ≡ directory_at kind limit level other o
-  pub by-cookie : (kind : Kind) (limit : ℕ) (image other : List ℕ) (o : ℕ) → 16 ≤ kind.entry → Agree image other o (entry_place kind o (total_at image o)) →
+  pub by_cookie : (kind : Kind) (limit : ℕ) (image other : List ℕ) (o : ℕ) → 16 ≤ kind.entry → Agree image other o (entry_place kind o (total_at image o)) →
       directory_by_cookie kind limit image o ≡ directory_by_cookie kind limit other o

@@ -13,14 +13,14 @@ use Rattle.entries.specs.declared.Entry.{Entry}
 use Rattle.entries.specs.Good.{EntryAcceptance}
 
 module _ (kind : Kind) (s : List ℕ) (d : Directory) (i : ℕ) where
-  pub only-entry : (e : Entry) → entry_in kind s d i ≡ given e → (i < d.total) × (entry_of kind s d i ≡ e)
-  only-entry e h = let g = past (ltb i d.total) _ _ _ h in (ltb-true _ _ g.0, cc g.1)
+  pub only_entry : (e : Entry) → entry_in kind s d i ≡ given e → (i < d.total) × (entry_of kind s d i ≡ e)
+  only_entry e h = let g = past (ltb i d.total) _ _ _ h in (ltb-true _ _ g.0, cc g.1)
 
-  pub all-entry : i < d.total → entry_in kind s d i ≡ given (entry_of kind s d i)
-  all-entry h = passed _ _ _ _ (lt-ltb _ _ h)
+  pub all_entry : i < d.total → entry_in kind s d i ≡ given (entry_of kind s d i)
+  all_entry h = passed _ _ _ _ (lt-ltb _ _ h)
 
-  behind-none : d.total ≤ i → entry_in kind s d i ≡ refused 8 alone
-  behind-none h = failed _ _ _ _ (le-ltb _ _ h)
+  behind_none : d.total ≤ i → entry_in kind s d i ≡ refused 8 alone
+  behind_none h = failed _ _ _ _ (le-ltb _ _ h)
 
-pub entry-acceptance : EntryAcceptance
-entry-acceptance = record { only = only-entry; all = all-entry; behind = behind-none }
+pub entry_acceptance : EntryAcceptance
+entry_acceptance = record { only = only_entry; all = all_entry; behind = behind_none }

@@ -5,7 +5,7 @@ use Rattle.reply.specs.Reply.{Reply, given, refused, alone, tested, in_header, i
 use Rattle.reply.specs.declared.Met.{Met}
 use Rattle.reply.specs.declared.Met.TheVariants as place
 use Rattle.reply.specs.Back.{fault_by}
-use Rattle.reply.proofs.ReplyLaws.{one-by, fault-back}
+use Rattle.reply.proofs.ReplyLaws.{one_by, fault_back}
 use Rattle.entries.specs.Entry.{told_entry, told_lead, told_match}
 use Rattle.entries.specs.Part.{told_part}
 use Rattle.entries.specs.Good.{ToldApart}
@@ -26,19 +26,19 @@ entry_back : Reply Entry → EntryAnswer
 entry_back (given e) = entry_answer.Given e
 entry_back (refused number carried) = entry_answer.Refused (fault_by number carried)
 
-entry-back : (x : EntryAnswer) → entry_back (told_entry x) ≡ x
+entry_back_lem : (x : EntryAnswer) → entry_back (told_entry x) ≡ x
 unfolding entry_back
-entry-back (entry_answer.Given e) = refl
-entry-back (entry_answer.Refused why) = ap (λ w. entry_answer.Refused w) (fault-back why)
+entry_back_lem (entry_answer.Given e) = refl
+entry_back_lem (entry_answer.Refused why) = ap (λ w. entry_answer.Refused w) (fault_back why)
 
 lead_back : Reply Lead → LeadAnswer
 lead_back (given l) = lead_answer.Given l
 lead_back (refused number carried) = lead_answer.Refused (fault_by number carried)
 
-lead-back : (x : LeadAnswer) → lead_back (told_lead x) ≡ x
+lead_back_lem : (x : LeadAnswer) → lead_back (told_lead x) ≡ x
 unfolding lead_back
-lead-back (lead_answer.Given l) = refl
-lead-back (lead_answer.Refused why) = ap (λ w. lead_answer.Refused w) (fault-back why)
+lead_back_lem (lead_answer.Given l) = refl
+lead_back_lem (lead_answer.Refused why) = ap (λ w. lead_answer.Refused w) (fault_back why)
 
 lookup_back : Reply Match → MatchAnswer
 lookup_back (given m) = match_answer.Given m
@@ -48,31 +48,31 @@ lookup_back (refused number (in_header level directory)) = match_answer.Refused 
 lookup_back (refused number (in_entry level index directory)) = match_answer.Refused (fault_by number (in_entry level index directory))
 
 -- where a fault was met is never a count
-lookup-met : (number : ℕ) (m : Met) → lookup_back (refused number (carried_of m)) ≡ match_answer.Refused (fault_by number (carried_of m))
+lookup_met : (number : ℕ) (m : Met) → lookup_back (refused number (carried_of m)) ≡ match_answer.Refused (fault_by number (carried_of m))
 unfolding lookup_back
-lookup-met number place.Alone = refl
-lookup-met number (place.Header level directory) = refl
-lookup-met number (place.Entry level index directory) = refl
+lookup_met number place.Alone = refl
+lookup_met number (place.Header level directory) = refl
+lookup_met number (place.Entry level index directory) = refl
 
-lookup-back : (x : MatchAnswer) → lookup_back (told_match x) ≡ x
+lookup_back_lem : (x : MatchAnswer) → lookup_back (told_match x) ≡ x
 unfolding lookup_back
-lookup-back (match_answer.Given m) = refl
-lookup-back (match_answer.Absent n) = refl
-lookup-back (match_answer.Refused why) = lookup-met why.number why.met ∙ ap (λ w. match_answer.Refused w) (fault-back why)
+lookup_back_lem (match_answer.Given m) = refl
+lookup_back_lem (match_answer.Absent n) = refl
+lookup_back_lem (match_answer.Refused why) = lookup_met why.number why.met ∙ ap (λ w. match_answer.Refused w) (fault_back why)
 
 part_back : Reply Part → PartAnswer
 part_back (given p) = part_answer.Given p
 part_back (refused number carried) = part_answer.Refused (fault_by number carried)
 
-part-back : (x : PartAnswer) → part_back (told_part x) ≡ x
+part_back_lem : (x : PartAnswer) → part_back (told_part x) ≡ x
 unfolding part_back
-part-back (part_answer.Given p) = refl
-part-back (part_answer.Refused why) = ap (λ w. part_answer.Refused w) (fault-back why)
+part_back_lem (part_answer.Given p) = refl
+part_back_lem (part_answer.Refused why) = ap (λ w. part_answer.Refused w) (fault_back why)
 
-pub told-apart : ToldApart
-told-apart = record {
-  entry = one-by told_entry entry_back entry-back;
-  lead = one-by told_lead lead_back lead-back;
-  lookup = one-by told_match lookup_back lookup-back;
-  part = one-by told_part part_back part-back;
+pub told_apart : ToldApart
+told_apart = record {
+  entry = one_by told_entry entry_back entry_back_lem;
+  lead = one_by told_lead lead_back lead_back_lem;
+  lookup = one_by told_match lookup_back lookup_back_lem;
+  part = one_by told_part part_back part_back_lem;
 }

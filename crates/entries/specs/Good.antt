@@ -39,9 +39,9 @@ Matches kind image d class sub i = ((entry_of kind image d i).class ≡ class) �
 pub record LowestLead : Type 0 where
   pub found : (kind : Kind) (image : List ℕ) (d : Directory) (i : ℕ) → Lowest (Leads kind image d) d.total i → lead_in kind image d ≡ given (lead_of kind image d i)
   pub absent : (kind : Kind) (image : List ℕ) (d : Directory) → None (Leads kind image d) d.total → lead_in kind image d ≡ refused 8 alone
-  pub found-only : (kind : Kind) (image : List ℕ) (d : Directory) (l : Lead) → lead_in kind image d ≡ given l →
+  pub found_only : (kind : Kind) (image : List ℕ) (d : Directory) (l : Lead) → lead_in kind image d ≡ given l →
       Lowest (Leads kind image d) d.total l.index × (entry_of kind image d l.index ≡ l.entry)
-  pub absent-only : (kind : Kind) (image : List ℕ) (d : Directory) (number : ℕ) (carried : Carried) → lead_in kind image d ≡ refused number carried → None (Leads kind image d) d.total
+  pub absent_only : (kind : Kind) (image : List ℕ) (d : Directory) (number : ℕ) (carried : Carried) → lead_in kind image d ≡ refused number carried → None (Leads kind image d) d.total
 
 -- the lookup gives the lowest match with its count, index + 1, or 8 with the total, and never otherwise
 pub record LowestMatch : Type 0 where
@@ -49,9 +49,9 @@ pub record LowestMatch : Type 0 where
       find_in kind image d class sub ≡ given (record { index = i; tested = i + 1 })
   pub absent : (kind : Kind) (image : List ℕ) (d : Directory) (class sub : ℕ) → None (Matches kind image d class sub) d.total →
       find_in kind image d class sub ≡ refused 8 (tested d.total)
-  pub found-only : (kind : Kind) (image : List ℕ) (d : Directory) (class sub : ℕ) (m : Match) → find_in kind image d class sub ≡ given m →
+  pub found_only : (kind : Kind) (image : List ℕ) (d : Directory) (class sub : ℕ) (m : Match) → find_in kind image d class sub ≡ given m →
       Lowest (Matches kind image d class sub) d.total m.index × (m.tested ≡ m.index + 1)
-  pub absent-only : (kind : Kind) (image : List ℕ) (d : Directory) (class sub number : ℕ) (carried : Carried) → find_in kind image d class sub ≡ refused number carried →
+  pub absent_only : (kind : Kind) (image : List ℕ) (d : Directory) (class sub number : ℕ) (carried : Carried) → find_in kind image d class sub ≡ refused number carried →
       None (Matches kind image d class sub) d.total × (number ≡ 8) × (carried ≡ tested d.total)
 
 -- a directory of a kind that may not repeat, where it is given: no two entries have one type and subprogram, and a lookup's match is the only one

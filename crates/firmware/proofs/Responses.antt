@@ -13,9 +13,9 @@ use Rattle.firmware.specs.declared.Descriptor.TheVariants.{Absent, Saved}
 use Rattle.firmware.specs.declared.Firmware.{Firmware}
 use Rattle.firmware.specs.declared.Ran.{Ran}
 
-fields-of : (response status command d : ℕ) → Fields response status command d
+fields_of : (response status command d : ℕ) → Fields response status command d
 unfolding word_of
-fields-of response status command d = record { response-back = omega arith; status-back = omega arith; command-back = omega arith; data-back = omega arith }
+fields_of response status command d = record { response_back = omega arith; status_back = omega arith; command_back = omega arith; data_back = omega arith }
 
 -- what both arms of a test have
 pub either : (P : Ran → Type 0) (b : Bool) (x y : Ran) → (b ≡ true → P x) → (b ≡ false → P y) → P (cond b x y)
@@ -29,22 +29,22 @@ module _ (f : Firmware) (w : ℕ) where
   -- status 0, with any state
   succeeds : (g : Firmware) (c d : ℕ) → c ≡ command_in w → ((c ≡ 0x81 → ⊥) → d ≡ data_in w) → Fits (answers g 0 c d)
   succeeds g c d e same =
-      let k = fields-of 1 0 c d in
+      let k = fields_of 1 0 c d in
       record {
-        response = k.response-back;
-        repeats = let h = k.command-back in omega arith;
-        copies = λ n. let h = k.data-back in let s = same (λ q. n (omega arith)) in omega arith;
-        changes = λ n. absurd (n k.status-back);
+        response = k.response_back;
+        repeats = let h = k.command_back in omega arith;
+        copies = λ n. let h = k.data_back in let s = same (λ q. n (omega arith)) in omega arith;
+        changes = λ n. absurd (n k.status_back);
       }
 
   -- any status, with the state kept
   keeps : (status c : ℕ) → c ≡ command_in w → Fits (answers f status c (data_in w))
   keeps status c e =
-      let k = fields-of 1 status c (data_in w) in
+      let k = fields_of 1 status c (data_in w) in
       record {
-        response = k.response-back;
-        repeats = let h = k.command-back in omega arith;
-        copies = λ n. let h = k.data-back in omega arith;
+        response = k.response_back;
+        repeats = let h = k.command_back in omega arith;
+        copies = λ n. let h = k.data_back in omega arith;
         changes = λ n. refl;
       }
 
@@ -70,4 +70,4 @@ module _ (f : Firmware) (w : ℕ) where
       (λ _. either Fits (eqb c 0x85) _ _ (λ q. delivers (let h = eqb-true c 0x85 q in omega arith)) (λ _. keeps 1 c e))))))
 
 pub responses : Responses
-responses = record { fields = fields-of; responds = λ f w. fits f w (command_in w) refl }
+responses = record { fields = fields_of; responds = λ f w. fits f w (command_in w) refl }

@@ -7,10 +7,10 @@ use Rattle.firmware.specs.declared.Ran.{Ran}
 
 -- a word has the fields that it was made of
 pub record Fields (response status command d : ℕ) : Type 0 where
-  pub response-back : response_in (word_of response status command d) ≡ response % 2
-  pub status-back : status_in (word_of response status command d) ≡ status % 32
-  pub command-back : command_in (word_of response status command d) ≡ command % 1024
-  pub data-back : data_in (word_of response status command d) ≡ d % 0x1_0000
+  pub response_back : response_in (word_of response status command d) ≡ response % 2
+  pub status_back : status_in (word_of response status command d) ≡ status % 32
+  pub command_back : command_in (word_of response status command d) ≡ command % 1024
+  pub data_back : data_in (word_of response status command d) ≡ d % 0x1_0000
 
 -- what a state answers a command word
 pub record Responds (f : Firmware) (w : ℕ) (r : Ran) : Type 0 where

@@ -8,7 +8,7 @@ use borrow.Author.Tests.{leb-true, le-leb, eqb-true, eqb-false, eq-eqb, ne_eqb}
 use lib.ListN.{length}
 use lib.Dec.{leb, eqb}
 use Rattle.reply.specs.Reply.{Reply, given, in_entry, then, met}
-use Rattle.reply.proofs.ReplyLaws.{past, passed, then-given, met-given}
+use Rattle.reply.proofs.ReplyLaws.{past, passed, then_given, met_given}
 use Rattle.window.specs.declared.Offset.{Offset}
 use Rattle.directory.specs.Directory.{directory_at}
 use Rattle.entries.specs.Entry.{lead_in}
@@ -19,7 +19,7 @@ use Rattle.directory.proofs.Accept.{acceptance}
 use Rattle.efs.specs.Efs.{pointer_in}
 use Rattle.window.specs.Inside.{GoodLength}
 use Rattle.efs.specs.declared.Rules.{Rules}
-use Rattle.window.proofs.Length.{sized-passed, sized_past}
+use Rattle.window.proofs.Length.{sized_passed, sized_past}
 use Rattle.flash.specs.Flash.{level_one, level_two, level_of, flash_directory}
 
 -- the two ways to a directory
@@ -43,31 +43,31 @@ module _ (r : Rules) (s : List ℕ) (d : Directory) where
       by false q from to e =
           let n : level ≡ 1 → ⊥ = eqb-false _ _ q in
           let l : level ≡ 2 = omega arith in
-          let t = then-given (level_one r s) (level_two r s) e in
+          let t = then_given (level_one r s) (level_two r s) e in
           rw l (two t.0 t.1 t.2)
 
-  pub open-one : GoodLength s → level_one r s ≡ given d → flash_directory r 1 s ≡ given d
+  pub open_one : GoodLength s → level_one r s ≡ given d → flash_directory r 1 s ≡ given d
   unfolding flash_directory
-  open-one z e = sized-passed s (level_one r s) z ∙ e
+  open_one z e = sized_passed s (level_one r s) z ∙ e
 
-  pub open-two : GoodLength s → (above : Directory) → level_one r s ≡ given above → level_two r s above ≡ given d → flash_directory r 2 s ≡ given d
+  pub open_two : GoodLength s → (above : Directory) → level_one r s ≡ given above → level_two r s above ≡ given d → flash_directory r 2 s ≡ given d
   unfolding flash_directory
-  open-two z above e h = sized-passed s _ z ∙ ap (λ (x : Reply Directory). then x (level_two r s)) e ∙ h
+  open_two z above e h = sized_passed s _ z ∙ ap (λ (x : Reply Directory). then x (level_two r s)) e ∙ h
 
 -- the steps of a level two that is given: the lead, the place where it leads, the directory there
-pub led-given : (r : Rules) (s : List ℕ) (above d : Directory) → level_two r s above ≡ given d →
+pub led_given : (r : Rules) (s : List ℕ) (above d : Directory) → level_two r s above ≡ given d →
     (l : Lead) × (lead_in r.kind s above ≡ given l) × (p : Offset) × (leads_to r.window s above.place.0 l.entry ≡ given p) × (directory_at r.kind r.limit 2 s p.0 ≡ given d)
-led-given r s above d e =
-    let k = then-given (lead_in r.kind s above) _ e in
-    let p = then-given (met (in_entry above.level k.0.index above.place.0) (leads_to r.window s above.place.0 k.0.entry)) _ k.2 in
-    (k.0, k.1, p.0, met-given _ (leads_to r.window s above.place.0 k.0.entry) p.1, p.2)
+led_given r s above d e =
+    let k = then_given (lead_in r.kind s above) _ e in
+    let p = then_given (met (in_entry above.level k.0.index above.place.0) (leads_to r.window s above.place.0 k.0.entry)) _ k.2 in
+    (k.0, k.1, p.0, met_given _ (leads_to r.window s above.place.0 k.0.entry) p.1, p.2)
 
 -- a directory that is given is small, and so is the image
-pub opened-small : (r : Rules) (s : List ℕ) (d : Directory) (level : ℕ) → flash_directory r level s ≡ given d → GoodLength s × (d.total ≤ r.limit)
-opened-small r s d level e = let o = opened r s d level e in (o.0, by o.1)
+pub opened_small : (r : Rules) (s : List ℕ) (d : Directory) (level : ℕ) → flash_directory r level s ≡ given d → GoodLength s × (d.total ≤ r.limit)
+opened_small r s d level e = let o = opened r s d level e in (o.0, by o.1)
   where
     by : {l : ℕ} → Opened r s d l → d.total ≤ r.limit
     by (one q) =
-        let t = then-given (pointer_in r s) (λ p. directory_at r.kind r.limit 1 s p.place.0) q in
+        let t = then_given (pointer_in r s) (λ p. directory_at r.kind r.limit 1 s p.place.0) q in
         (acceptance.only r.kind r.limit 1 s t.0.place.0 d t.2).0.few
-    by (two above a q) = let t = led-given r s above d q in (acceptance.only r.kind r.limit 2 s t.2.0 d t.4).0.few
+    by (two above a q) = let t = led_given r s above d q in (acceptance.only r.kind r.limit 2 s t.2.0 d t.4).0.few

@@ -12,26 +12,26 @@ use Rattle.fletcher.specs.Fletcher.{written_of}
 abbrev pub Same : (x y : ℕ) → Type 0
 Same x y = x % 65535 ≡ y % 65535
 
-pub plus-same : (p q z : ℕ) → Same p q → Same (p + z) (q + z)
-plus-same p q z e = omega arith
+pub plus_same : (p q z : ℕ) → Same p q → Same (p + z) (q + z)
+plus_same p q z e = omega arith
 
-pub times-same : (n p q z : ℕ) → Same p q → Same (n * p + z) (n * q + z)
-times-same zero p q z e = omega arith
-times-same (suc n) p q z e =
+pub times_same : (n p q z : ℕ) → Same p q → Same (n * p + z) (n * q + z)
+times_same zero p q z e = omega arith
+times_same (suc n) p q z e =
     let m : ℕ → ℕ = λ j. j % 65535 in
     let one : suc n * p + z ≡ n * p + (p + z) = omega (arith, suc-mul n p) in
     let two : n * q + (p + z) ≡ p + (n * q + z) = omega arith in
     let three : q + (n * q + z) ≡ suc n * q + z = omega (arith, suc-mul n q) in
-    ap m one ∙ times-same n p q (p + z) e ∙ ap m two ∙ plus-same p q (n * q + z) e ∙ ap m three
+    ap m one ∙ times_same n p q (p + z) e ∙ ap m two ∙ plus_same p q (n * q + z) e ∙ ap m three
 
 -- T of words with n others behind them, from S and T that come to the same
-pub weighted-same : (n p q x y z : ℕ) → Same p q → Same x y → Same (p + n * x + z) (q + n * y + z)
-weighted-same n p q x y z e f =
+pub weighted_same : (n p q x y z : ℕ) → Same p q → Same x y → Same (p + n * x + z) (q + n * y + z)
+weighted_same n p q x y z e f =
     let m : ℕ → ℕ = λ j. j % 65535 in
     let one : p + n * x + z ≡ p + (n * x + z) = omega arith in
     let two : q + (n * x + z) ≡ n * x + (q + z) = omega arith in
     let three : n * y + (q + z) ≡ q + n * y + z = omega arith in
-    ap m one ∙ plus-same p q (n * x + z) e ∙ ap m two ∙ times-same n x y (q + z) f ∙ ap m three
+    ap m one ∙ plus_same p q (n * x + z) e ∙ ap m two ∙ times_same n x y (q + z) f ∙ ap m three
 
 pub written_same : (x y : ℕ) → Same x y → written_of x ≡ written_of y
 written_same x y e = rw e
@@ -46,8 +46,8 @@ as_written x = by (eqb (x % 65535) 0) refl
 
 -- how a folded sum is written
 module _ (x : ℕ) where
-  pub written-zero : x ≡ 0 → 65535 ≡ written_of x
-  written-zero e = rw e
+  pub written_zero : x ≡ 0 → 65535 ≡ written_of x
+  written_zero e = rw e
 
-  pub written-folded : x < 65535 → (x ≡ 0 → ⊥) → x ≡ written_of x
-  written-folded h e = rw (mod-eq_of_lt h, ne_eqb x 0 e)
+  pub written_folded : x < 65535 → (x ≡ 0 → ⊥) → x ≡ written_of x
+  written_folded h e = rw (mod-eq_of_lt h, ne_eqb x 0 e)

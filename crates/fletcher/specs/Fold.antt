@@ -33,11 +33,11 @@ pub record Folds : Type 0 where
   -- from nothing on, the running sums are S and T
   pub running : (ws : List ℕ) → (sum_after 0 ws ≡ sum_of ws) × (weighted_after 0 0 ws ≡ weighted_of ws)
   -- the fold that is made, the remainder modulo 65,535, leaves at most 65,534, and both sums may be that: 360 words are safe
-  pub remainder-leaves : (x : ℕ) → x % 65535 ≤ 65534
-  pub remainder-reaches : (sum_of steepest % 65535 ≡ 65534) × (weighted_of steepest % 65535 ≡ 65534)
+  pub remainder_leaves : (x : ℕ) → x % 65535 ≤ 65534
+  pub remainder_reaches : (sum_of steepest % 65535 ≡ 65534) × (weighted_of steepest % 65535 ≡ 65534)
   pub remainder : Largest 65534 360
   -- the request's fold, every 359 words, is safe
   pub chosen : Safe 65534 359
   -- one addition of the halves would leave at most 131,070: there 359 is the largest
-  pub halves-leave : (x : ℕ) → x < 2 ^ 32 → x % 65536 + x / 65536 ≤ 131070
+  pub halves_leave : (x : ℕ) → x < 2 ^ 32 → x % 65536 + x / 65536 ≤ 131070
   pub halves : Largest 131070 359

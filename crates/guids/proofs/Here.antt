@@ -6,15 +6,15 @@ use native.Mathlib.Omega.{arith}
 use lib.ListN.{length, take, drop}
 use Rattle.le.specs.Le.{le_at, le_bytes, Bytes, bytes_of}
 use Rattle.le.specs.Field.{Field, get}
-use Rattle.le.proofs.Part.{le-part}
-use Rattle.le.proofs.Numbers.{held, held-again}
+use Rattle.le.proofs.Part.{le_part}
+use Rattle.le.proofs.Numbers.{held, held_again}
 use Rattle.guids.specs.declared.Guid.{Guid}
 use Rattle.guids.specs.Table.{length_at, guid_at, end_fields, end_bytes}
 use Rattle.guids.specs.Layout.{Sixteen}
 
 -- a field of an end, read in the end's part
 pub in_end : (f : Field) (s : List ℕ) (o : ℕ) → f.at + f.bytes ≤ 18 → le_at f.bytes (take (o + 18 - o) (drop o s)) f.at ≡ get f s o
-in_end f s o h = le-part f.bytes (o + 18 - o) s o f.at (omega arith)
+in_end f s o h = le_part f.bytes (o + 18 - o) s o f.at (omega arith)
 
 -- the places of an end's fields, and where one ends the next begins
 module _ (s : List ℕ) (o : ℕ) where
@@ -25,13 +25,13 @@ module _ (s : List ℕ) (o : ℕ) where
   at_high = ap (le_at 8 s) (omega arith)
 
 module _ (n : ℕ) (g : Guid) where
-  pub length-end : length (end_bytes n g) ≡ 18
+  pub length_end : length (end_bytes n g) ≡ 18
   unfolding bytes_of le_bytes
-  length-end = refl
+  length_end = refl
 
   -- the length and the GUID that an end behind xs in s holds
-  pub end-here : (s xs ys : List ℕ) (o : ℕ) → length xs ≡ o → s ≡ xs ++ (end_bytes n g ++ ys) → n < 2 ^ 16 → Sixteen g → (length_at s o ≡ n) × (guid_at s o ≡ g)
-  end-here s xs ys o at e c w =
+  pub end_here : (s xs ys : List ℕ) (o : ℕ) → length xs ≡ o → s ≡ xs ++ (end_bytes n g ++ ys) → n < 2 ^ 16 → Sixteen g → (length_at s o ≡ n) × (guid_at s o ≡ g)
+  end_here s xs ys o at e c w =
       let h = held (end_fields n g) s xs ys o e at (c, (w.low, (w.high, tt))) in
       let high = sym (at_high s o) ∙ h.1.1.0 in
       (sym (at_length s o) ∙ h.0, λ j. record { low = h.1.0 j; high = high j })
@@ -39,4 +39,4 @@ module _ (n : ℕ) (g : Guid) where
 -- in an image of bytes, an end that was read is written again
 pub end_back : (s : List ℕ) → Bytes s → (o : ℕ) → o + 18 ≤ length s → end_bytes (length_at s o) (guid_at s o) ≡ take 18 (drop o s)
 unfolding bytes_of le_bytes
-end_back s bytes o h = held-again (end_fields (length_at s o) (guid_at s o)) s o bytes h (at_length s o, (refl, (at_high s o, tt)))
+end_back s bytes o h = held_again (end_fields (length_at s o) (guid_at s o)) s o bytes h (at_length s o, (refl, (at_high s o, tt)))

@@ -16,9 +16,9 @@ Has g entries i = (get_or entries i no_entry).guid ≡ g
 pub record FirstMatchFound : Type 0 where
   pub found : (s : List ℕ) (entries : List GuidEntry) (g : Guid) (i : ℕ) → entries_of s ≡ given entries → Lowest (Has g entries) (length entries) i → find_of s g ≡ given (match_at entries i)
   pub absent : (s : List ℕ) (entries : List GuidEntry) (g : Guid) → entries_of s ≡ given entries → None (Has g entries) (length entries) → find_of s g ≡ refused 8 (tested (length entries))
-  pub found-only : (s : List ℕ) (entries : List GuidEntry) (g : Guid) (m : GuidMatch) → entries_of s ≡ given entries → find_of s g ≡ given m →
+  pub found_only : (s : List ℕ) (entries : List GuidEntry) (g : Guid) (m : GuidMatch) → entries_of s ≡ given entries → find_of s g ≡ given m →
       (i : ℕ) × Lowest (Has g entries) (length entries) i × (m ≡ match_at entries i)
-  pub absent-only : (s : List ℕ) (entries : List GuidEntry) (g : Guid) (w : ℕ) (c : Carried) → entries_of s ≡ given entries → find_of s g ≡ refused w c →
+  pub absent_only : (s : List ℕ) (entries : List GuidEntry) (g : Guid) (w : ℕ) (c : Carried) → entries_of s ≡ given entries → find_of s g ≡ refused w c →
       None (Has g entries) (length entries) × (w ≡ 8) × (c ≡ tested (length entries))
   pub checked : (s : List ℕ) (g : Guid) (w : ℕ) (c : Carried) → entries_of s ≡ refused w c → find_of s g ≡ refused w c
 

@@ -8,45 +8,45 @@ use borrow.Author.Tests.{leb-true, le-leb, lt-leb, ne_eqb}
 use lib.ListN.{length, get_or, take, drop, drop_of_length-le}
 use lib.Dec.{leb}
 use Rattle.le.specs.Le.{put_bytes, put_at}
-use Rattle.le.proofs.Numbers.{puts-all}
-use Rattle.le.proofs.Part.{drop-next}
+use Rattle.le.proofs.Numbers.{puts_all}
+use Rattle.le.proofs.Part.{drop_next}
 use Rattle.reply.specs.Reply.{given, refused, alone}
-use Rattle.reply.proofs.ReplyLaws.{past, then-given}
+use Rattle.reply.proofs.ReplyLaws.{past, then_given}
 use Rattle.guids.specs.declared.Guid.{Guid}
 use Rattle.guids.specs.declared.Totals.{Totals}
 use Rattle.guids.specs.Table.{end_fields, end_bytes, table_of}
 use Rattle.guids_build.specs.Write.{start_of, all_zero, room_for, extend_of}
-use Rattle.guids.proofs.Walk.{Good, good-table}
-use Rattle.guids.proofs.Here.{length-end}
+use Rattle.guids.proofs.Walk.{Good, good_table}
+use Rattle.guids.proofs.Here.{length_end}
 
 -- what the table and each entry end with, written one number behind the other
-pub put-end : (n : ℕ) (g : Guid) (s : List ℕ) (o : ℕ) → o + 18 ≤ length s → put_at 8 g.high (put_at 8 g.low (put_at 2 n s (o + 0)) (o + 2)) (o + 10) ≡ put_bytes (end_bytes n g) s o
-put-end n g s o h =
+pub put_end_lem : (n : ℕ) (g : Guid) (s : List ℕ) (o : ℕ) → o + 18 ≤ length s → put_at 8 g.high (put_at 8 g.low (put_at 2 n s (o + 0)) (o + 2)) (o + 10) ≡ put_bytes (end_bytes n g) s o
+put_end_lem n g s o h =
     let first : o + 0 ≡ o = omega arith in
     let third : o + 10 ≡ o + 2 + 8 = omega arith in
-    (λ j. put_at 8 g.high (put_at 8 g.low (put_at 2 n s (first j)) (o + 2)) (third j)) ∙ puts-all (end_fields n g) s o (rw (length-end n g) h)
+    (λ j. put_at 8 g.high (put_at 8 g.low (put_at 2 n s (first j)) (o + 2)) (third j)) ∙ puts_all (end_fields n g) s o (rw (length_end n g) h)
 
 pub start_none : (s : List ℕ) → length s < 50 → start_of s ≡ refused 12 alone
 unfolding start_of
 start_none s h = simp (lt-leb 50 (length s) h)
 
-pub start-some : (s : List ℕ) → 50 ≤ length s → start_of s ≡ given 18
+pub start_some : (s : List ℕ) → 50 ≤ length s → start_of s ≡ given 18
 unfolding start_of
-start-some s h = simp (le-leb 50 (length s) h)
+start_some s h = simp (le-leb 50 (length s) h)
 
 -- the test for zero bytes, one byte at a time
 module _ (s : List ℕ) (i : ℕ) where
-  pub zero-end : length s ≤ i → all_zero (drop i s) ≡ true
+  pub zero_end : length s ≤ i → all_zero (drop i s) ≡ true
   unfolding all_zero
-  zero-end h = rw (drop_of_length-le s h)
+  zero_end h = rw (drop_of_length-le s h)
 
-  pub zero-step : i < length s → get_or s i 0 ≡ 0 → all_zero (drop i s) ≡ all_zero (drop (i + 1) s)
+  pub zero_step : i < length s → get_or s i 0 ≡ 0 → all_zero (drop i s) ≡ all_zero (drop (i + 1) s)
   unfolding all_zero
-  zero-step h z = rw (drop-next s i h, z)
+  zero_step h z = rw (drop_next s i h, z)
 
-  pub zero-stop : i < length s → (get_or s i 0 ≡ 0 → ⊥) → all_zero (drop i s) ≡ false
+  pub zero_stop : i < length s → (get_or s i 0 ≡ 0 → ⊥) → all_zero (drop i s) ≡ false
   unfolding all_zero
-  zero-stop h n = rw (drop-next s i h, ne_eqb (get_or s i 0) 0 n)
+  zero_stop h n = rw (drop_next s i h, ne_eqb (get_or s i 0) 0 n)
 
 -- what an extend that is accepted says
 pub record Room (s bytes : List ℕ) (total : ℕ) : Type 0 where
@@ -57,10 +57,10 @@ pub record Room (s bytes : List ℕ) (total : ℕ) : Type 0 where
   pub fits : total ≤ length s - 32
   pub zeros : all_zero (take (length bytes + 18) (drop (length s - 32 - total) s)) ≡ true
 
-pub room-facts : (s bytes : List ℕ) (total : ℕ) → extend_of s bytes ≡ given total → Room s bytes total
+pub room_facts : (s bytes : List ℕ) (total : ℕ) → extend_of s bytes ≡ given total → Room s bytes total
 unfolding room_for
-room-facts s bytes total e =
-    let t = then-given (table_of s) (λ t. room_for s (length bytes + 18) (t.total + (length bytes + 18))) e in
+room_facts s bytes total e =
+    let t = then_given (table_of s) (λ t. room_for s (length bytes + 18) (t.total + (length bytes + 18))) e in
     let n = t.0.total + (length bytes + 18) in
     let a = past (leb n 65_535) _ _ _ t.2 in
     let b = past (leb n (length s - 32)) _ _ _ a.1 in
@@ -68,7 +68,7 @@ room-facts s bytes total e =
     let q : n ≡ total = cc d.1 in
     record {
       old = t.0;
-      good = good-table s t.0 t.1;
+      good = good_table s t.0 t.1;
       new = q;
       small = omega (arith, leb-true n 65_535 a.0);
       fits = omega (arith, leb-true n (length s - 32) b.0);

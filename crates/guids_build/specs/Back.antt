@@ -54,7 +54,7 @@ extend_all s (i ∷ others) = then (extend_of s i.bytes) (λ total. extend_all (
 -- items put in by extends that are accepted are read back as given, in order, behind those that a table had
 pub record ItemsBack : Type 0 where
   pub from_start : (s : List ℕ) (items : List Item) (after : List ℕ) → shortest ≤ length s → All Whole items → extend_all (started s) items ≡ given after → items_of after ≡ given items
-  pub from-table : (s : List ℕ) (old items : List Item) (after : List ℕ) → Bytes s → All Whole items → items_of s ≡ given old → extend_all s items ≡ given after →
+  pub from_table : (s : List ℕ) (old items : List Item) (after : List ℕ) → Bytes s → All Whole items → items_of s ≡ given old → extend_all s items ≡ given after →
       items_of after ≡ given (old ++ items)
 
 -- an image with the bytes of its table, as many as its total says, made zero

@@ -29,14 +29,14 @@ module _ (image : List ℕ) (long : length image ≡ unchanged) where
     entry = λ level i. same (λ r. flash_entry r level image i);
     part = λ level i. same (λ r. flash_part r level image i);
     find = λ level class sub. same (λ r. flash_find r level image class sub);
-    find-image = λ class sub. same (λ r. find_image r image class sub);
+    find_image_lem = λ class sub. same (λ r. find_image r image class sub);
     repeated = λ level. same (λ r. flash_repeats r level image);
-    view-image = λ level. same (λ r. view_image r level image);
-    view-place = λ level. same (λ r. view_place r level image);
+    view_image_lem = λ level. same (λ r. view_image r level image);
+    view_place_lem = λ level. same (λ r. view_place r level image);
     place = λ place. same (λ r. check_at r image place);
-    place-entry = λ place i. same (λ r. entry_at r image place i);
-    place-part = λ place i. same (λ r. part_at r image place i);
+    place_entry = λ place i. same (λ r. entry_at r image place i);
+    place_part = λ place i. same (λ r. part_at r image place i);
   }
 
-pub sixteen-mib : SixteenMiB
-sixteen-mib image long = as_before image long
+pub sixteen_mib : SixteenMiB
+sixteen_mib image long = as_before image long

@@ -12,13 +12,13 @@ use Rattle.le.specs.Field.{get}
 use lib.Dec.{ltb, eqb}
 use Rattle.reply.specs.Reply.{Reply, given, refused, alone, in_entry, guard, then, met}
 use Rattle.reply.specs.Scan.{Lowest}
-use Rattle.reply.proofs.ReplyLaws.{past, clash, then-given, either, met-given}
-use Rattle.reply.proofs.ScanLaws.{scan-same}
+use Rattle.reply.proofs.ReplyLaws.{past, clash, then_given, either, met_given}
+use Rattle.reply.proofs.ScanLaws.{scan_same}
 use Rattle.window.specs.Window.{four_gib, offset_in}
 use Rattle.window.specs.Inside.{Shown, GoodLength}
 use Rattle.window.specs.declared.Offset.{Offset}
-use Rattle.window.proofs.Inside.{offset-fact, offset-given}
-use Rattle.window.proofs.Length.{sized-passed, sized_past}
+use Rattle.window.proofs.Inside.{offset_fact, offset_given}
+use Rattle.window.proofs.Length.{sized_passed, sized_past}
 use Rattle.directory.specs.Directory.{psp_kind, directory_at}
 use Rattle.directory.specs.declared.Directory.{Directory}
 use Rattle.directory.proofs.Accept.{acceptance}
@@ -28,9 +28,9 @@ use Rattle.entries.specs.Good.{BeginsAt, physical, flash, counted, GoodPart}
 use Rattle.entries.specs.declared.Entry.{Entry}
 use Rattle.entries.specs.declared.Lead.{Lead}
 use Rattle.entries.specs.declared.Part.{Part}
-use Rattle.entries.proofs.Accept.{only-entry}
-use Rattle.entries.proofs.Lowest.{lowest-lead}
-use Rattle.entries.proofs.PartAccept.{two-bits, lead-fact, lead-given, parts-accepted}
+use Rattle.entries.proofs.Accept.{only_entry}
+use Rattle.entries.proofs.Lowest.{lowest_lead}
+use Rattle.entries.proofs.PartAccept.{two_bits, lead_fact, lead_given, parts_accepted}
 use Rattle.efs.specs.Fields as efs
 use Rattle.efs.specs.Rules.{rules_of}
 use Rattle.efs.specs.Good.{EfsAt, PointsTo}
@@ -38,16 +38,16 @@ use Rattle.efs.specs.Good as pointer
 use Rattle.efs.specs.Efs.{efs_place, efs_at, efs_in, absent, pointer_to, pointer_from, pointer_of, pointer_in, flash_efs, flash_pointer}
 use Rattle.efs.specs.declared.Efs.{Efs}
 use Rattle.efs.specs.declared.Pointer.{Pointer}
-use Rattle.efs.proofs.Accept.{only-efs, all-efs, pointer-fact}
+use Rattle.efs.proofs.Accept.{only_efs, all_efs, pointer_fact}
 use Rattle.flash.specs.Flash.{level_one, level_two_at, level_two, from_lookup, flash_directory, flash_entry, flash_part, flash_find}
-use Rattle.flash.proofs.Ways.{Opened, one, two, opened, open-one, open-two}
+use Rattle.flash.proofs.Ways.{Opened, one, two, opened, open_one, open_two}
 use Rattle.walk.specs.Walk.{Step, enter, test, fault, entries_from, walked_by, below_of, walk_of, first_in, find_image}
 use Rattle.walk.specs.declared.ImageMatch.{ImageMatch}
 use Rattle.build_again.specs.Again.{from_start, told_from_start}
-use Rattle.build_again.proofs.Moved.{le-drop, directory-same, entry-same}
+use Rattle.build_again.proofs.Moved.{le_drop, directory_same, entry_same}
 use Rattle.image_lengths.specs.Told.{candidate}
 use Rattle.image_lengths.specs.EndsAlike.{moved, moved_efs, moved_pointer, moved_directory, moved_part, moved_match, moved_answer, NoOffset, FromTheEnd, AllFromTheEnd, EndsAlike, ImagesEndAlike}
-use Rattle.image_lengths.proofs.Told.{fits, whole, told-physical}
+use Rattle.image_lengths.proofs.Told.{fits, whole, told_physical}
 
 -- of two candidates the later is the lower
 lower : (i : ℕ) → i < 5 → candidate (suc i) ≤ candidate i
@@ -63,8 +63,8 @@ descending zero j i e h = let at : i ≡ j = omega arith in let q : candidate i 
 descending (suc k) j i e h = let r = descending k (suc j) i (omega arith) h in let l = lower j (omega arith) in omega arith
 
 -- a pointer that leads somewhere is below 4 GiB
-below-4-gib : (s : List ℕ) (p : ℕ) (o : Offset) → GoodLength s → pointer_to (length s) s p ≡ given o → p < four_gib
-below-4-gib s p o good e = by (pointer-fact (length s) (fits s good) s p o e).0
+below_4_gib : (s : List ℕ) (p : ℕ) (o : Offset) → GoodLength s → pointer_to (length s) s p ≡ given o → p < four_gib
+below_4_gib s p o good e = by (pointer_fact (length s) (fits s good) s p o e).0
   where
     by : PointsTo (length s) p o.0 → p < four_gib
     by (pointer.physical shown) = omega (arith, shown.inside, shown.counted)
@@ -90,7 +90,7 @@ module _ (front s : List ℕ) (short : GoodLength s) (allowed : GoodLength (fron
   rest o = drop-append-add front s o
 
   number : (m o p : ℕ) → le_at m t (n + o + p) ≡ le_at m s (o + p)
-  number m o p = sym (le-drop m t (n + o) p) ∙ ap (λ (x : List ℕ). le_at m x p) (rest o) ∙ le-drop m s o p
+  number m o p = sym (le_drop m t (n + o) p) ∙ ap (λ (x : List ℕ). le_at m x p) (rest o) ∙ le_drop m s o p
 
   -- an address that the shorter shows
   shown : (a o : ℕ) → Shown (length s) a o → Shown (length t) a (n + o)
@@ -98,10 +98,10 @@ module _ (front s : List ℕ) (short : GoodLength s) (allowed : GoodLength (fron
 
   address : (a : ℕ) (o : Offset) → offset_in (length s) a ≡ given o → offset_in (length t) a ≡ given (moved n o)
   address a o e =
-      let f = offset-fact (length s) a o e in
+      let f = offset_fact (length s) a o e in
       let l = long in
       let k = fits t allowed in
-      offset-given (length t) a (n + o.0) (omega (arith, f.0)) f.1 (omega (arith, f.0, f.2))
+      offset_given (length t) a (n + o.0) (omega (arith, f.0)) f.1 (omega (arith, f.0, f.2))
 
   -- ---- the EFS
   abbrev Here : ℕ → Type 0
@@ -127,61 +127,61 @@ module _ (front s : List ℕ) (short : GoodLength s) (allowed : GoodLength (fron
         signature = sym (number 4 (h.place - n) 0) ∙ ap (λ (o : ℕ). le_at 4 t (o + 0)) at ∙ h.signature;
       }
 
-  lowest-there : (i : ℕ) → Lowest Here 6 i → Lowest There 6 i
-  lowest-there i l = record {
+  lowest_there : (i : ℕ) → Lowest Here 6 i → Lowest There 6 i
+  lowest_there i l = record {
     inside = l.inside;
     here = there i l.here;
     earlier = λ j h g. l.earlier j h (here i j l.here.place (descending (i - j) j i (omega arith) l.inside) (let b = l.inside in omega arith) l.here.shown g);
   }
 
-  efs-place : (o : Offset) → efs_place (length s) (rules_of s).candidates s ≡ given o → efs_place (length t) (rules_of t).candidates t ≡ given (moved n o)
-  unfolding lowest-there there
-  efs-place o e =
-      let f = only-efs (length s) (fits s short) s (rules_of s).candidates o e in
-      all-efs (length t) (fits t allowed) t (rules_of t).candidates f.0 (lowest-there f.0 f.1) ∙ ap (λ (x : ℕ). given (record { 0 = n + x })) f.2
+  efs_place_lem : (o : Offset) → efs_place (length s) (rules_of s).candidates s ≡ given o → efs_place (length t) (rules_of t).candidates t ≡ given (moved n o)
+  unfolding lowest_there there
+  efs_place_lem o e =
+      let f = only_efs (length s) (fits s short) s (rules_of s).candidates o e in
+      all_efs (length t) (fits t allowed) t (rules_of t).candidates f.0 (lowest_there f.0 f.1) ∙ ap (λ (x : ℕ). given (record { 0 = n + x })) f.2
 
-  efs-same : (o : Offset) → efs_at t (moved n o) ≡ moved_efs n (efs_at s o)
-  efs-same o = λ j. record { place = moved n o; early = number 4 o.0 0x10 j; late = number 4 o.0 0x14 j }
+  efs_same : (o : Offset) → efs_at t (moved n o) ≡ moved_efs n (efs_at s o)
+  efs_same o = λ j. record { place = moved n o; early = number 4 o.0 0x10 j; late = number 4 o.0 0x14 j }
 
-  efs-in : (e : Efs) → efs_in (rules_of s) s ≡ given e → efs_in (rules_of t) t ≡ given (moved_efs n e)
-  efs-in e h =
-      let v = then-given (efs_place (length s) (rules_of s).candidates s) (λ o. given (efs_at s o)) h in
+  efs_in_lem : (e : Efs) → efs_in (rules_of s) s ≡ given e → efs_in (rules_of t) t ≡ given (moved_efs n e)
+  efs_in_lem e h =
+      let v = then_given (efs_place (length s) (rules_of s).candidates s) (λ o. given (efs_at s o)) h in
       let is : efs_at s v.0 ≡ e = let g = v.2 in cc in
-      ap (λ (x : Reply Offset). then x (λ o. given (efs_at t o))) (efs-place v.0 v.1) ∙ ap given (efs-same v.0 ∙ ap (moved_efs n) is)
+      ap (λ (x : Reply Offset). then x (λ o. given (efs_at t o))) (efs_place_lem v.0 v.1) ∙ ap given (efs_same v.0 ∙ ap (moved_efs n) is)
 
   -- ---- the pointer
   to : (p : ℕ) (o : Offset) → four_gib ≤ p + length s → pointer_to (length s) s p ≡ given o → pointer_to (length t) t p ≡ given (moved n o)
   to p o high e =
-      let b = below-4-gib s p o short e in
+      let b = below_4_gib s p o short e in
       let l = long in
-      let is : p + length s - four_gib ≡ o.0 = let q = sym (told-physical s short p (high, b)) ∙ e in cc in
-      told-physical t allowed p (omega arith, b) ∙ ap (λ (x : ℕ). given (record { 0 = x })) (omega arith)
+      let is : p + length s - four_gib ≡ o.0 = let q = sym (told_physical s short p (high, b)) ∙ e in cc in
+      told_physical t allowed p (omega arith, b) ∙ ap (λ (x : ℕ). given (record { 0 = x })) (omega arith)
 
   from : (field v : ℕ) (p : Pointer) → pointer_from (length s) s field v ≡ given p → four_gib ≤ p.value + length s → pointer_from (length t) t field v ≡ given (moved_pointer n p)
   from field v p e high =
-      let u = then-given (pointer_to (length s) s v) (λ o. given (record { field = field; value = v; place = o })) e in
+      let u = then_given (pointer_to (length s) s v) (λ o. given (record { field = field; value = v; place = o })) e in
       let is : record { field = field; value = v; place = u.0 } ≡ p = let g = u.2 in cc in
       let value : v ≡ p.value = ap (λ (x : Pointer). x.value) is in
       ap (λ (x : Reply Offset). then x (λ o. given (record { field = field; value = v; place = o }))) (to v u.0 (omega arith) u.1) ∙ ap (λ (x : Pointer). given (moved_pointer n x)) is
 
-  pointer-of : (e : Efs) (p : Pointer) → pointer_of (length s) s e ≡ given p → four_gib ≤ p.value + length s → pointer_of (length t) t (moved_efs n e) ≡ given (moved_pointer n p)
+  pointer_of_lem : (e : Efs) (p : Pointer) → pointer_of (length s) s e ≡ given p → four_gib ≤ p.value + length s → pointer_of (length t) t (moved_efs n e) ≡ given (moved_pointer n p)
   unfolding pointer_of
-  pointer-of e p h high =
+  pointer_of_lem e p h high =
       either (absent e.late) _ _ h
       (λ b x. let g = past (not (absent e.early)) _ _ _ x in simp (b, g.0) (from 0x10 e.early p g.1 high))
       (λ b y. simp b (from 0x14 e.late p y high))
 
   pointer_in_lem : (p : Pointer) → pointer_in (rules_of s) s ≡ given p → four_gib ≤ p.value + length s → pointer_in (rules_of t) t ≡ given (moved_pointer n p)
   pointer_in_lem p h high =
-      let u = then-given (efs_in (rules_of s) s) (pointer_of (length s) s) h in
-      ap (λ (x : Reply Efs). then x (pointer_of (length t) t)) (efs-in u.0 u.1) ∙ pointer-of u.0 p u.2 high
+      let u = then_given (efs_in (rules_of s) s) (pointer_of (length s) s) h in
+      ap (λ (x : Reply Efs). then x (pointer_of (length t) t)) (efs_in_lem u.0 u.1) ∙ pointer_of_lem u.0 p u.2 high
 
   -- ---- a directory and its entries
-  directory-at : (level o : ℕ) (d : Directory) → directory_at psp_kind 512 level s o ≡ given d → directory_at psp_kind 512 level t (n + o) ≡ given (moved_directory n d)
-  directory-at level o d e = by (directory_at psp_kind 512 level t (n + o)) refl same
+  directory_at_lem : (level o : ℕ) (d : Directory) → directory_at psp_kind 512 level s o ≡ given d → directory_at psp_kind 512 level t (n + o) ≡ given (moved_directory n d)
+  directory_at_lem level o d e = by (directory_at psp_kind 512 level t (n + o)) refl same
     where
       same : told_from_start (directory_at psp_kind 512 level t (n + o)) ≡ given (from_start d)
-      same = sym (directory-same psp_kind t (n + o) 512 level) ∙ ap (λ (x : List ℕ). directory_at psp_kind 512 level x 0) (rest o) ∙ directory-same psp_kind s o 512 level ∙ ap told_from_start e
+      same = sym (directory_same psp_kind t (n + o) 512 level) ∙ ap (λ (x : List ℕ). directory_at psp_kind 512 level x 0) (rest o) ∙ directory_same psp_kind s o 512 level ∙ ap told_from_start e
 
       by : (q : Reply Directory) → directory_at psp_kind 512 level t (n + o) ≡ q → told_from_start q ≡ given (from_start d) → q ≡ given (moved_directory n d)
       by (given c) h k =
@@ -194,21 +194,21 @@ module _ (front s : List ℕ) (short : GoodLength s) (allowed : GoodLength (fron
           ap given (λ j. record { place = record { 0 = place j }; level = level j; total = total j })
       by (refused number carried) h k = clash k
 
-  entry-of : (d : Directory) (i : ℕ) → entry_of psp_kind t (moved_directory n d) i ≡ entry_of psp_kind s d i
-  entry-of d i = sym (entry-same psp_kind t (moved_directory n d) i) ∙ ap (λ (x : List ℕ). entry_of psp_kind x (from_start d) i) (rest d.place.0) ∙ entry-same psp_kind s d i
+  entry_of_lem : (d : Directory) (i : ℕ) → entry_of psp_kind t (moved_directory n d) i ≡ entry_of psp_kind s d i
+  entry_of_lem d i = sym (entry_same psp_kind t (moved_directory n d) i) ∙ ap (λ (x : List ℕ). entry_of psp_kind x (from_start d) i) (rest d.place.0) ∙ entry_same psp_kind s d i
 
   entry_in_lem : (d : Directory) (i : ℕ) → entry_in psp_kind t (moved_directory n d) i ≡ entry_in psp_kind s d i
-  entry_in_lem d i = ap (λ (e : Entry). guard (ltb i d.total) 8 (given e)) (entry-of d i)
+  entry_in_lem d i = ap (λ (e : Entry). guard (ltb i d.total) 8 (given e)) (entry_of_lem d i)
 
-  lead-in : (d : Directory) → lead_in psp_kind t (moved_directory n d) ≡ lead_in psp_kind s d
-  lead-in d =
-      scan-same (lead_step psp_kind t (moved_directory n d)) (lead_step psp_kind s d) (λ _. refused 8 alone) d.total 0
-      (λ j a b rest. ap (λ (e : Entry). cond (eqb e.class psp_kind.lead) (given (record { index = j; entry = e })) rest) (entry-of d j))
+  lead_in_lem : (d : Directory) → lead_in psp_kind t (moved_directory n d) ≡ lead_in psp_kind s d
+  lead_in_lem d =
+      scan_same (lead_step psp_kind t (moved_directory n d)) (lead_step psp_kind s d) (λ _. refused 8 alone) d.total 0
+      (λ j a b rest. ap (λ (e : Entry). cond (eqb e.class psp_kind.lead) (given (record { index = j; entry = e })) rest) (entry_of_lem d j))
 
-  find-in : (d : Directory) (class sub : ℕ) → find_in psp_kind t (moved_directory n d) class sub ≡ find_in psp_kind s d class sub
-  find-in d class sub =
-      scan-same (find_step psp_kind t (moved_directory n d) class sub) (find_step psp_kind s d class sub) nowhere d.total 0
-      (λ j a b rest. ap (λ (e : Entry). cond (matches e class sub) (found_at j) rest) (entry-of d j))
+  find_in_lem : (d : Directory) (class sub : ℕ) → find_in psp_kind t (moved_directory n d) class sub ≡ find_in psp_kind s d class sub
+  find_in_lem d class sub =
+      scan_same (find_step psp_kind t (moved_directory n d) class sub) (find_step psp_kind s d class sub) nowhere d.total 0
+      (λ j a b rest. ap (λ (e : Entry). cond (matches e class sub) (found_at j) rest) (entry_of_lem d j))
 
   -- ---- where a location leads
   begins : (o : ℕ) (e : Entry) (place : ℕ) → NoOffset e → BeginsAt (length s) o e place → BeginsAt (length t) (n + o) e (n + place)
@@ -216,23 +216,23 @@ module _ (front s : List ℕ) (short : GoodLength s) (allowed : GoodLength (fron
   begins o e place no-offset (flash m l) = absurd (no-offset m)
   begins o e place no-offset (counted m l) = counted m (omega arith)
 
-  leads-to : (o : ℕ) (e : Entry) (p : Offset) → e.mode ≤ 3 → NoOffset e → leads_to (length s) s o e ≡ given p → leads_to (length t) t (n + o) e ≡ given (moved n p)
-  leads-to o e p m no-offset h =
-      let f = lead-fact (length s) (fits s short) s o e p m h in
+  leads_to_lem : (o : ℕ) (e : Entry) (p : Offset) → e.mode ≤ 3 → NoOffset e → leads_to (length s) s o e ≡ given p → leads_to (length t) t (n + o) e ≡ given (moved n p)
+  leads_to_lem o e p m no-offset h =
+      let f = lead_fact (length s) (fits s short) s o e p m h in
       let l = long in
-      lead-given (length t) (fits t allowed) t (n + o) e (moved n p) (begins o e p.0 no-offset f.0) (omega (arith, f.1))
+      lead_given (length t) (fits t allowed) t (n + o) e (moved n p) (begins o e p.0 no-offset f.0) (omega (arith, f.1))
 
-  level-two-at : (above : Directory) (i : ℕ) (e : Entry) (d : Directory) → e.mode ≤ 3 → NoOffset e → level_two_at (rules_of s) s above i e ≡ given d →
+  level_two_at_lem : (above : Directory) (i : ℕ) (e : Entry) (d : Directory) → e.mode ≤ 3 → NoOffset e → level_two_at (rules_of s) s above i e ≡ given d →
       level_two_at (rules_of t) t (moved_directory n above) i e ≡ given (moved_directory n d)
-  level-two-at above i e d m no-offset h =
+  level_two_at_lem above i e d m no-offset h =
       let o = above.place.0 in
-      let p = then-given (met (in_entry above.level i o) (leads_to (length s) s o e)) (λ p. directory_at psp_kind 512 2 s p.0) h in
-      let q = leads-to o e p.0 m no-offset (met-given _ (leads_to (length s) s o e) p.1) in
-      ap (λ (x : Reply Offset). then (met (in_entry above.level i (n + o)) x) (λ p. directory_at psp_kind 512 2 t p.0)) q ∙ directory-at 2 p.0.0 d p.2
+      let p = then_given (met (in_entry above.level i o) (leads_to (length s) s o e)) (λ p. directory_at psp_kind 512 2 s p.0) h in
+      let q = leads_to_lem o e p.0 m no-offset (met_given _ (leads_to (length s) s o e) p.1) in
+      ap (λ (x : Reply Offset). then (met (in_entry above.level i (n + o)) x) (λ p. directory_at psp_kind 512 2 t p.0)) q ∙ directory_at_lem 2 p.0.0 d p.2
 
   part_in_lem : (d : Directory) (i : ℕ) (p : Part) → NoOffset (entry_of psp_kind s d i) → part_in psp_kind (length s) s d i ≡ given p → part_in psp_kind (length t) t (moved_directory n d) i ≡ given (moved_part n p)
   part_in_lem d i p no-offset h =
-      let f = (parts-accepted psp_kind (length s) s d i p (fits s short)).only h in
+      let f = (parts_accepted psp_kind (length s) s d i p (fits s short)).only h in
       let l = long in
       let good : GoodPart psp_kind (length t) t (n + d.place.0) (entry_of psp_kind s d i) (moved_part n p) = record {
         no_value = f.1.no_value;
@@ -240,54 +240,54 @@ module _ (front s : List ℕ) (short : GoodLength s) (allowed : GoodLength (fron
         size = f.1.size;
         inside = omega (arith, f.1.inside);
       } in
-      (parts-accepted psp_kind (length t) t (moved_directory n d) i (moved_part n p) (fits t allowed)).all f.0
-      (subst (λ (e : Entry). GoodPart psp_kind (length t) t (n + d.place.0) e (moved_part n p)) (sym (entry-of d i)) good)
+      (parts_accepted psp_kind (length t) t (moved_directory n d) i (moved_part n p) (fits t allowed)).all f.0
+      (subst (λ (e : Entry). GoodPart psp_kind (length t) t (n + d.place.0) e (moved_part n p)) (sym (entry_of_lem d i)) good)
 
   -- ---- the calls
-  efs-call : (e : Efs) → flash_efs (rules_of s) s ≡ given e → flash_efs (rules_of t) t ≡ given (moved_efs n e)
-  efs-call e h = sized-passed t (efs_in (rules_of t) t) allowed ∙ efs-in e (sized_past s (efs_in (rules_of s) s) h).1
+  efs_call : (e : Efs) → flash_efs (rules_of s) s ≡ given e → flash_efs (rules_of t) t ≡ given (moved_efs n e)
+  efs_call e h = sized_passed t (efs_in (rules_of t) t) allowed ∙ efs_in_lem e (sized_past s (efs_in (rules_of s) s) h).1
 
   module _ (way : FromTheEnd s) where
-    pointer-call : (p : Pointer) → flash_pointer (rules_of s) s ≡ given p → flash_pointer (rules_of t) t ≡ given (moved_pointer n p)
-    pointer-call p h = sized-passed t (pointer_in (rules_of t) t) allowed ∙ pointer_in_lem p (sized_past s (pointer_in (rules_of s) s) h).1 (way.pointer p h)
+    pointer_call : (p : Pointer) → flash_pointer (rules_of s) s ≡ given p → flash_pointer (rules_of t) t ≡ given (moved_pointer n p)
+    pointer_call p h = sized_passed t (pointer_in (rules_of t) t) allowed ∙ pointer_in_lem p (sized_past s (pointer_in (rules_of s) s) h).1 (way.pointer p h)
 
-    level-one : (d : Directory) → level_one (rules_of s) s ≡ given d → level_one (rules_of t) t ≡ given (moved_directory n d)
-    level-one d h =
-        let u = then-given (pointer_in (rules_of s) s) (λ p. directory_at psp_kind 512 1 s p.place.0) h in
-        ap (λ (x : Reply Pointer). then x (λ p. directory_at psp_kind 512 1 t p.place.0)) (pointer_in_lem u.0 u.1 (way.pointer u.0 (sized-passed s (pointer_in (rules_of s) s) short ∙ u.1)))
-        ∙ directory-at 1 u.0.place.0 d u.2
+    level_one_lem : (d : Directory) → level_one (rules_of s) s ≡ given d → level_one (rules_of t) t ≡ given (moved_directory n d)
+    level_one_lem d h =
+        let u = then_given (pointer_in (rules_of s) s) (λ p. directory_at psp_kind 512 1 s p.place.0) h in
+        ap (λ (x : Reply Pointer). then x (λ p. directory_at psp_kind 512 1 t p.place.0)) (pointer_in_lem u.0 u.1 (way.pointer u.0 (sized_passed s (pointer_in (rules_of s) s) short ∙ u.1)))
+        ∙ directory_at_lem 1 u.0.place.0 d u.2
 
-    level-two : (above d : Directory) → level_one (rules_of s) s ≡ given above → level_two (rules_of s) s above ≡ given d → level_two (rules_of t) t (moved_directory n above) ≡ given (moved_directory n d)
-    level-two above d first h =
-        let k = then-given (lead_in psp_kind s above) (λ l. level_two_at (rules_of s) s above l.index l.entry) h in
-        let l = lowest-lead.found-only psp_kind s above k.0 k.1 in
-        let m : k.0.entry.mode ≤ 3 = subst (λ (e : Entry). e.mode ≤ 3) l.1 (two-bits s _) in
-        ap (λ (x : Reply Lead). then x (λ l. level_two_at (rules_of t) t (moved_directory n above) l.index l.entry)) (lead-in above ∙ k.1)
-        ∙ level-two-at above k.0.index k.0.entry d m (way.lead above k.0 (open-one (rules_of s) s above short first) k.1) k.2
+    level_two_lem : (above d : Directory) → level_one (rules_of s) s ≡ given above → level_two (rules_of s) s above ≡ given d → level_two (rules_of t) t (moved_directory n above) ≡ given (moved_directory n d)
+    level_two_lem above d first h =
+        let k = then_given (lead_in psp_kind s above) (λ l. level_two_at (rules_of s) s above l.index l.entry) h in
+        let l = lowest_lead.found_only psp_kind s above k.0 k.1 in
+        let m : k.0.entry.mode ≤ 3 = subst (λ (e : Entry). e.mode ≤ 3) l.1 (two_bits s _) in
+        ap (λ (x : Reply Lead). then x (λ l. level_two_at (rules_of t) t (moved_directory n above) l.index l.entry)) (lead_in_lem above ∙ k.1)
+        ∙ level_two_at_lem above k.0.index k.0.entry d m (way.lead above k.0 (open_one (rules_of s) s above short first) k.1) k.2
 
-    directory-call : (level : ℕ) (d : Directory) → flash_directory (rules_of s) level s ≡ given d → flash_directory (rules_of t) level t ≡ given (moved_directory n d)
-    directory-call level d h = by (opened (rules_of s) s d level h).1
+    directory_call : (level : ℕ) (d : Directory) → flash_directory (rules_of s) level s ≡ given d → flash_directory (rules_of t) level t ≡ given (moved_directory n d)
+    directory_call level d h = by (opened (rules_of s) s d level h).1
       where
         by : {level : ℕ} → Opened (rules_of s) s d level → flash_directory (rules_of t) level t ≡ given (moved_directory n d)
-        by (one q) = open-one (rules_of t) t (moved_directory n d) allowed (level-one d q)
-        by (two above a q) = open-two (rules_of t) t (moved_directory n d) allowed (moved_directory n above) (level-one above a) (level-two above d a q)
+        by (one q) = open_one (rules_of t) t (moved_directory n d) allowed (level_one_lem d q)
+        by (two above a q) = open_two (rules_of t) t (moved_directory n d) allowed (moved_directory n above) (level_one_lem above a) (level_two_lem above d a q)
 
-    entry-call : (level : ℕ) (d : Directory) → flash_directory (rules_of s) level s ≡ given d → (i : ℕ) → flash_entry (rules_of t) level t i ≡ flash_entry (rules_of s) level s i
-    entry-call level d h i =
-        ap (λ (x : Reply Directory). then x (λ d. entry_in psp_kind t d i)) (directory-call level d h) ∙ entry_in_lem d i ∙ sym (ap (λ (x : Reply Directory). then x (λ d. entry_in psp_kind s d i)) h)
+    entry_call : (level : ℕ) (d : Directory) → flash_directory (rules_of s) level s ≡ given d → (i : ℕ) → flash_entry (rules_of t) level t i ≡ flash_entry (rules_of s) level s i
+    entry_call level d h i =
+        ap (λ (x : Reply Directory). then x (λ d. entry_in psp_kind t d i)) (directory_call level d h) ∙ entry_in_lem d i ∙ sym (ap (λ (x : Reply Directory). then x (λ d. entry_in psp_kind s d i)) h)
 
-    find-call : (level : ℕ) (d : Directory) → flash_directory (rules_of s) level s ≡ given d → (class sub : ℕ) → flash_find (rules_of t) level t class sub ≡ flash_find (rules_of s) level s class sub
-    find-call level d h class sub =
-        ap (λ (x : Reply Directory). then (from_lookup x) (λ d. find_in psp_kind t d class sub)) (directory-call level d h)
-        ∙ find-in d class sub
+    find_call : (level : ℕ) (d : Directory) → flash_directory (rules_of s) level s ≡ given d → (class sub : ℕ) → flash_find (rules_of t) level t class sub ≡ flash_find (rules_of s) level s class sub
+    find_call level d h class sub =
+        ap (λ (x : Reply Directory). then (from_lookup x) (λ d. find_in psp_kind t d class sub)) (directory_call level d h)
+        ∙ find_in_lem d class sub
         ∙ sym (ap (λ (x : Reply Directory). then (from_lookup x) (λ d. find_in psp_kind s d class sub)) h)
 
-    part-call : (level i : ℕ) (e : Entry) (p : Part) → flash_entry (rules_of s) level s i ≡ given e → NoOffset e → flash_part (rules_of s) level s i ≡ given p → flash_part (rules_of t) level t i ≡ given (moved_part n p)
-    part-call level i e p a no-offset h =
-        let u = then-given (flash_directory (rules_of s) level s) (λ d. part_in psp_kind (length s) s d i) h in
+    part_call : (level i : ℕ) (e : Entry) (p : Part) → flash_entry (rules_of s) level s i ≡ given e → NoOffset e → flash_part (rules_of s) level s i ≡ given p → flash_part (rules_of t) level t i ≡ given (moved_part n p)
+    part_call level i e p a no-offset h =
+        let u = then_given (flash_directory (rules_of s) level s) (λ d. part_in psp_kind (length s) s d i) h in
         let is : entry_in psp_kind s u.0 i ≡ given e = sym (ap (λ (x : Reply Directory). then x (λ d. entry_in psp_kind s d i)) u.1) ∙ a in
-        let same = only-entry psp_kind s u.0 i e is in
-        ap (λ (x : Reply Directory). then x (λ d. part_in psp_kind (length t) t d i)) (directory-call level u.0 u.1)
+        let same = only_entry psp_kind s u.0 i e is in
+        ap (λ (x : Reply Directory). then x (λ d. part_in psp_kind (length t) t d i)) (directory_call level u.0 u.1)
         ∙ part_in_lem u.0 i p (subst NoOffset (sym same.1) no-offset) u.2
 
   -- ---- the walk through the whole image
@@ -303,7 +303,7 @@ module _ (front s : List ℕ) (short : GoodLength s) (allowed : GoodLength (fron
   unfolding entries_from
   entries_from_lem below-t below-s d zero i h = refl
   entries_from_lem below-t below-s d (suc m) i h =
-      ap₂ (λ (x y : List Step). test (moved_directory n d) i ∷ (x ++ y)) (ap (below-t i) (entry-of d i) ∙ h i (omega arith)) (entries_from_lem below-t below-s d m (i + 1) (λ j b. h j (omega arith)))
+      ap₂ (λ (x y : List Step). test (moved_directory n d) i ∷ (x ++ y)) (ap (below-t i) (entry_of_lem d i) ∙ h i (omega arith)) (entries_from_lem below-t below-s d m (i + 1) (λ j b. h j (omega arith)))
       ∙ ap (λ (x : List Step). test (moved_directory n d) i ∷ x) (sym (map-append moved_step (below-s i (entry_of psp_kind s d i)) (entries_from below-s psp_kind s d m (i + 1))))
 
   -- a directory with nothing below it
@@ -325,7 +325,7 @@ module _ (front s : List ℕ) (short : GoodLength s) (allowed : GoodLength (fron
         by true q =
             let lead = eqb-true _ _ q in
             let g = whole-way.good d j first b lead in
-            ap (walked_by (walk_of 0 (rules_of t) t)) (level-two-at d j (entry_of psp_kind s d j) g.0 (two-bits s _) (whole-way.leads d j first b lead) g.1)
+            ap (walked_by (walk_of 0 (rules_of t) t)) (level_two_at_lem d j (entry_of psp_kind s d j) g.0 (two_bits s _) (whole-way.leads d j first b lead) g.1)
             ∙ walked g.0
             ∙ sym (ap (λ (x : Reply Directory). map moved_step (walked_by (walk_of 0 (rules_of s) s) x)) g.1)
         by false q = refl
@@ -336,35 +336,35 @@ module _ (front s : List ℕ) (short : GoodLength s) (allowed : GoodLength (fron
         (entries_from_lem (below_of 1 (rules_of t) t (moved_directory n d)) (below_of 1 (rules_of s) s d) d d.total 0 (λ j b. below j (omega arith)))
 
   -- the first match of steps that were moved
-  first-in : (class sub : ℕ) (steps : List Step) (k : ℕ) → first_in psp_kind t class sub (map moved_step steps) k ≡ moved_answer n (first_in psp_kind s class sub steps k)
+  first_in_lem : (class sub : ℕ) (steps : List Step) (k : ℕ) → first_in psp_kind t class sub (map moved_step steps) k ≡ moved_answer n (first_in psp_kind s class sub steps k)
   unfolding first_in
-  first-in class sub [] k = refl
-  first-in class sub (enter d ∷ steps) k = first-in class sub steps k
-  first-in class sub (test d i ∷ steps) k =
-      ap (λ (e : Entry). cond (matches e class sub) (given (moved_match n (record { place = d.place; level = d.level; index = i; tested = k + 1 }))) (first_in psp_kind t class sub (map moved_step steps) (k + 1))) (entry-of d i)
-      ∙ ap (cond (matches (entry_of psp_kind s d i) class sub) _) (first-in class sub steps (k + 1))
+  first_in_lem class sub [] k = refl
+  first_in_lem class sub (enter d ∷ steps) k = first_in_lem class sub steps k
+  first_in_lem class sub (test d i ∷ steps) k =
+      ap (λ (e : Entry). cond (matches e class sub) (given (moved_match n (record { place = d.place; level = d.level; index = i; tested = k + 1 }))) (first_in psp_kind t class sub (map moved_step steps) (k + 1))) (entry_of_lem d i)
+      ∙ ap (cond (matches (entry_of psp_kind s d i) class sub) _) (first_in_lem class sub steps (k + 1))
       ∙ sym (moved_cond n (matches (entry_of psp_kind s d i) class sub) _ _)
-  first-in class sub (fault number carried ∷ steps) k = refl
+  first_in_lem class sub (fault number carried ∷ steps) k = refl
 
-  find-image-call : AllFromTheEnd s → (d : Directory) → flash_directory (rules_of s) 1 s ≡ given d → (class sub : ℕ) → find_image (rules_of t) t class sub ≡ moved_answer n (find_image (rules_of s) s class sub)
-  find-image-call whole-way d h class sub =
-      ap (λ (x : Reply Directory). then (from_lookup x) (λ d. first_in psp_kind t class sub (walk_of 1 (rules_of t) t d) 0)) (directory-call whole-way.way 1 d h)
+  find_image_call : AllFromTheEnd s → (d : Directory) → flash_directory (rules_of s) 1 s ≡ given d → (class sub : ℕ) → find_image (rules_of t) t class sub ≡ moved_answer n (find_image (rules_of s) s class sub)
+  find_image_call whole-way d h class sub =
+      ap (λ (x : Reply Directory). then (from_lookup x) (λ d. first_in psp_kind t class sub (walk_of 1 (rules_of t) t d) 0)) (directory_call whole-way.way 1 d h)
       ∙ ap (λ (steps : List Step). first_in psp_kind t class sub steps 0) (walk whole-way d h)
-      ∙ first-in class sub (walk_of 1 (rules_of s) s d) 0
+      ∙ first_in_lem class sub (walk_of 1 (rules_of s) s d) 0
       ∙ sym (ap (λ (x : Reply Directory). moved_answer n (then (from_lookup x) (λ d. first_in psp_kind s class sub (walk_of 1 (rules_of s) s d) 0))) h)
 
   bytes_same : (p : Part) → take p.length (drop (n + p.place.0) t) ≡ take p.length (drop p.place.0 s)
   bytes_same p = ap (take p.length) (rest p.place.0)
 
-pub images-end-alike : ImagesEndAlike
-images-end-alike front s short allowed = record {
+pub images_end_alike : ImagesEndAlike
+images_end_alike front s short allowed = record {
   address = address front s short allowed;
-  efs = efs-call front s short allowed;
-  pointer = pointer-call front s short allowed;
-  directory = directory-call front s short allowed;
-  entry = entry-call front s short allowed;
-  find = find-call front s short allowed;
-  find-image = find-image-call front s short allowed;
-  part = part-call front s short allowed;
+  efs = efs_call front s short allowed;
+  pointer = pointer_call front s short allowed;
+  directory = directory_call front s short allowed;
+  entry = entry_call front s short allowed;
+  find = find_call front s short allowed;
+  find_image_lem = find_image_call front s short allowed;
+  part = part_call front s short allowed;
   bytes = bytes_same front s short allowed;
 }

@@ -11,25 +11,25 @@ use lib.Dec.{leb, ltb}
 use Rattle.le.specs.Field.{get}
 use Rattle.reply.specs.Reply.{Reply, given, refused, alone, then}
 use Rattle.reply.specs.Scan.{scan}
-use Rattle.reply.proofs.ReplyLaws.{passed, failed, then-given}
+use Rattle.reply.proofs.ReplyLaws.{passed, failed, then_given}
 use Rattle.window.specs.Window.{four_gib, window_start, offset_in}
 use Rattle.window.specs.Inside.{Shown, GoodLength}
 use Rattle.window.specs.declared.Offset.{Offset}
-use Rattle.window.proofs.Inside.{offset-given}
-use Rattle.window.proofs.Length.{sized-passed, sized_past}
+use Rattle.window.proofs.Inside.{offset_given}
+use Rattle.window.proofs.Length.{sized_passed, sized_past}
 use Rattle.directory.specs.declared.Kind.{Kind}
 use Rattle.directory.specs.declared.Directory.{Directory}
 use Rattle.entries.specs.Part.{leads_to, part_of}
 use Rattle.entries.specs.declared.Entry.{Entry}
 use Rattle.entries.specs.declared.Part.{Part}
-use Rattle.entries.proofs.PartAccept.{parts-accepted}
+use Rattle.entries.proofs.PartAccept.{parts_accepted}
 use Rattle.efs.specs.Fields as efs
 use Rattle.efs.specs.Rules.{rules_of}
 use Rattle.efs.specs.Efs.{candidate_at, or_else, efs_place, efs_at, efs_in, pointer_to, flash_efs}
 use Rattle.efs.specs.declared.Efs.{Efs}
-use Rattle.efs.proofs.Accept.{only-efs}
+use Rattle.efs.proofs.Accept.{only_efs}
 use Rattle.flash.specs.Good.{FlashAcceptance}
-use Rattle.flash.proofs.Accept.{levels-accepted}
+use Rattle.flash.proofs.Accept.{levels_accepted}
 use Rattle.flash.proofs.Ways.{opened}
 use Rattle.image_lengths.specs.Told.{Outside, PhysicalPointer, OffsetPointer, shortest, AddressesTold, LengthTold, candidate, CandidatesTold, AcceptedByLength, LengthsTold}
 
@@ -41,13 +41,13 @@ outside long a (inr above) = passed _ _ _ _ (le-leb (window_start long) a (omega
 
 module _ (image : List ℕ) where
   -- a mode 0 location outside the window
-  lead-outside : (o : ℕ) (e : Entry) → e.mode ≡ 0 → Outside (length image) e.location → leads_to (length image) image o e ≡ refused 7 alone
+  lead_outside : (o : ℕ) (e : Entry) → e.mode ≡ 0 → Outside (length image) e.location → leads_to (length image) image o e ≡ refused 7 alone
   unfolding leads_to
-  lead-outside o e m h = simp (m, outside (length image) e.location h)
+  lead_outside o e m h = simp (m, outside (length image) e.location h)
 
-  part-outside : (kind : Kind) (o : ℕ) (e : Entry) → e.mode ≡ 0 → (e.class ≡ kind.value → ⊥) → Outside (length image) e.location → part_of kind (length image) image o e ≡ refused 7 alone
+  part_outside : (kind : Kind) (o : ℕ) (e : Entry) → e.mode ≡ 0 → (e.class ≡ kind.value → ⊥) → Outside (length image) e.location → part_of kind (length image) image o e ≡ refused 7 alone
   unfolding part_of
-  part-outside kind o e m value h = simp (ne_eqb _ _ value, lead-outside o e m h)
+  part_outside kind o e m value h = simp (ne_eqb _ _ value, lead_outside o e m h)
 
   -- a candidate below the window
   over : (a : ℕ) (rest : Reply Offset) → a + length image < four_gib → or_else (candidate_at (length image) image a) rest ≡ rest
@@ -60,11 +60,11 @@ module _ (image : List ℕ) where
     fits = let to = good.to in omega arith
 
     address : (a : ℕ) → four_gib ≤ a + length image → a < four_gib → offset_in (length image) a ≡ given (record { 0 = a + length image - four_gib })
-    address a low high = let f = fits in offset-given (length image) a _ (omega arith) (omega arith) (omega arith)
+    address a low high = let f = fits in offset_given (length image) a _ (omega arith) (omega arith) (omega arith)
 
-    pub told-physical : (p : ℕ) → PhysicalPointer (length image) p → pointer_to (length image) image p ≡ given (record { 0 = p + length image - four_gib })
+    pub told_physical : (p : ℕ) → PhysicalPointer (length image) p → pointer_to (length image) image p ≡ given (record { 0 = p + length image - four_gib })
     unfolding pointer_to
-    told-physical p (low, high) =
+    told_physical p (low, high) =
         let f = fits in
         let within : p + length image - four_gib ≤ length image = omega arith in
         simp (le-leb (window_start (length image)) p (omega arith), address p low high, le-leb _ _ within)
@@ -85,7 +85,7 @@ module _ (image : List ℕ) where
     too_short : length image < shortest → flash_efs (rules_of image) image ≡ refused 2 alone
     unfolding scan
     too_short h =
-        sized-passed image (efs_in (rules_of image) image) good
+        sized_passed image (efs_in (rules_of image) image) good
         ∙ ap (λ (x : Reply Offset). then x (λ o. given (efs_at image o)))
         (over 0xFFFA_0000 _ (omega arith)
         ∙ over 0xFFF2_0000 _ (omega arith)
@@ -111,22 +111,22 @@ module _ (image : List ℕ) where
       (i : ℕ) × (i < 6) × Shown (length image) (candidate i) e.place.0 × (get efs.signature image e.place.0 ≡ 0x55AA_55AA)
   used e q =
       let z = sized_past image (efs_in (rules_of image) image) q in
-      let v = then-given (efs_place (length image) (rules_of image).candidates image) (λ o. given (efs_at image o)) z.1 in
-      let f = only-efs (length image) (fits z.0) image (rules_of image).candidates v.0 v.1 in
+      let v = then_given (efs_place (length image) (rules_of image).candidates image) (λ o. given (efs_at image o)) z.1 in
+      let f = only_efs (length image) (fits z.0) image (rules_of image).candidates v.0 v.1 in
       let is : efs_at image v.0 ≡ e = let h = v.2 in cc in
       let place : f.1.here.place ≡ e.place.0 = f.2 ∙ ap (λ (x : Efs). x.place.0) is in
       (f.0, f.1.inside, subst (Shown (length image) (candidate f.0)) place f.1.here.shown, ap (λ (o : ℕ). get efs.signature image o) (sym place) ∙ f.1.here.signature)
 
-  of-level : (level : ℕ) (d : Directory) → FlashAcceptance (rules_of image) level image d
-  of-level level d = record {
-    only = λ e. (levels-accepted (rules_of image) level image d (fits (opened (rules_of image) image d level e).0)).only e;
-    all = λ good g. (levels-accepted (rules_of image) level image d (fits good)).all good g;
+  of_level : (level : ℕ) (d : Directory) → FlashAcceptance (rules_of image) level image d
+  of_level level d = record {
+    only = λ e. (levels_accepted (rules_of image) level image d (fits (opened (rules_of image) image d level e).0)).only e;
+    all = λ good g. (levels_accepted (rules_of image) level image d (fits good)).all good g;
   }
 
-pub lengths-told : LengthsTold
-lengths-told = record {
-  addresses = λ image. record { outside = outside (length image); lead = lead-outside image; part = part-outside image };
-  told = λ image good. record { address = address image good; physical = told-physical image good; offset = offset image good; neither = neither image good };
+pub lengths_told : LengthsTold
+lengths_told = record {
+  addresses = λ image. record { outside = outside (length image); lead = lead_outside image; part = part_outside image };
+  told = λ image good. record { address = address image good; physical = told_physical image good; offset = offset image good; neither = neither image good };
   candidates = λ image. record { passed_over = over image; used = used image; whole = whole image; too_short = too_short image };
-  accepted = λ image. record { directory = of-level image; part = λ good d i p. parts-accepted (rules_of image).kind (length image) image d i p (fits image good) };
+  accepted = λ image. record { directory = of_level image; part = λ good d i p. parts_accepted (rules_of image).kind (length image) image d i p (fits image good) };
 }

@@ -21,13 +21,13 @@ pub record AsBefore (image : List ℕ) : Type 0 where
   pub entry : (level i : ℕ) → flash_entry (rules_of image) level image i ≡ flash_entry base_rules level image i
   pub part : (level i : ℕ) → flash_part (rules_of image) level image i ≡ flash_part base_rules level image i
   pub find : (level class sub : ℕ) → flash_find (rules_of image) level image class sub ≡ flash_find base_rules level image class sub
-  pub find-image : (class sub : ℕ) → find_image (rules_of image) image class sub ≡ find_image base_rules image class sub
+  pub find_image_lem : (class sub : ℕ) → find_image (rules_of image) image class sub ≡ find_image base_rules image class sub
   pub repeated : (level : ℕ) → flash_repeats (rules_of image) level image ≡ flash_repeats base_rules level image
-  pub view-image : (level : ℕ) → view_image (rules_of image) level image ≡ view_image base_rules level image
-  pub view-place : (level : ℕ) → view_place (rules_of image) level image ≡ view_place base_rules level image
+  pub view_image_lem : (level : ℕ) → view_image (rules_of image) level image ≡ view_image base_rules level image
+  pub view_place_lem : (level : ℕ) → view_place (rules_of image) level image ≡ view_place base_rules level image
   pub place : (place : ℕ) → check_at (rules_of image) image place ≡ check_at base_rules image place
-  pub place-entry : (place i : ℕ) → entry_at (rules_of image) image place i ≡ entry_at base_rules image place i
-  pub place-part : (place i : ℕ) → part_at (rules_of image) image place i ≡ part_at base_rules image place i
+  pub place_entry : (place i : ℕ) → entry_at (rules_of image) image place i ≡ entry_at base_rules image place i
+  pub place_part : (place i : ℕ) → part_at (rules_of image) image place i ≡ part_at base_rules image place i
 
 abbrev pub SixteenMiB : Type 0
 SixteenMiB = (image : List ℕ) → length image ≡ unchanged → AsBefore image

@@ -71,7 +71,7 @@ pub record EndsAlike (front image : List ℕ) : Type 0 where
   pub find : FromTheEnd image → (level : ℕ) (d : Directory) → flash_directory (rules_of image) level image ≡ given d → (class sub : ℕ) →
       flash_find (rules_of (front ++ image)) level (front ++ image) class sub ≡ flash_find (rules_of image) level image class sub
   -- the lookup in the whole image finds the same, or the same count of entries without it
-  pub find-image : AllFromTheEnd image → (d : Directory) → flash_directory (rules_of image) 1 image ≡ given d → (class sub : ℕ) →
+  pub find_image_lem : AllFromTheEnd image → (d : Directory) → flash_directory (rules_of image) 1 image ≡ given d → (class sub : ℕ) →
       find_image (rules_of (front ++ image)) (front ++ image) class sub ≡ moved_answer (length front) (find_image (rules_of image) image class sub)
   -- and an entry has the same bytes, but for mode 1
   pub part : FromTheEnd image → (level i : ℕ) (e : Entry) (p : Part) → flash_entry (rules_of image) level image i ≡ given e → NoOffset e → flash_part (rules_of image) level image i ≡ given p →

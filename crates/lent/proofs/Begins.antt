@@ -7,7 +7,7 @@ use borrow.Author.Tests.{eq-eqb}
 use Rattle.lent.specs.Lent.{begins}
 
 -- a list begins with its beginning
-pub begins-front : (values more : List ℕ) → begins values (values ++ more) ≡ true
+pub begins_front : (values more : List ℕ) → begins values (values ++ more) ≡ true
 unfolding begins
-begins-front [] more = refl
-begins-front (v ∷ values) more = rw (eq-eqb v v refl) (begins-front values more)
+begins_front [] more = refl
+begins_front (v ∷ values) more = rw (eq-eqb v v refl) (begins_front values more)

@@ -16,16 +16,16 @@ module _ {A : Type 0} (lay : A → List ℕ) (d : Reply A) (after : Reply A → 
   unfolding bytes_left
   bytes_fit h = rw (le-leb (length (values_of lay d)) (length words) h)
 
-  pub given-bytes : (a : A) → d ≡ given a → length (lay a) ≤ length words → after d ≡ bytes_left lay d after before words
-  given-bytes a e h = bytes_fit (rw e h)
+  pub given_bytes : (a : A) → d ≡ given a → length (lay a) ≤ length words → after d ≡ bytes_left lay d after before words
+  given_bytes a e h = bytes_fit (rw e h)
 
-  pub alone-bytes : (n : ℕ) → d ≡ refused n alone → after d ≡ bytes_left lay d after before words
-  alone-bytes n e = bytes_fit (rw e (omega arith))
+  pub alone_bytes : (n : ℕ) → d ≡ refused n alone → after d ≡ bytes_left lay d after before words
+  alone_bytes n e = bytes_fit (rw e (omega arith))
 
   -- a reply that changes no byte: whether its values fit or not
-  pub kept-bytes : after d ≡ before → after d ≡ bytes_left lay d after before words
+  pub kept_bytes : after d ≡ before → after d ≡ bytes_left lay d after before words
   unfolding bytes_left
-  kept-bytes e = by (leb (length (values_of lay d)) (length words))
+  kept_bytes e = by (leb (length (values_of lay d)) (length words))
     where
       by : (b : Bool) → after d ≡ cond b (after d) before
       by true = refl
@@ -36,22 +36,22 @@ pub no_words : (words : List ℕ) → length words < 1 → words ≡ []
 no_words [] h = refl
 no_words (w ∷ words) h = absurd (let f : ⊥ = omega arith in f)
 
-pub number-none : (d : Reply ℕ) (n : ℕ) → d ≡ given n → 12 ≡ number_left lay_number d []
+pub number_none : (d : Reply ℕ) (n : ℕ) → d ≡ given n → 12 ≡ number_left lay_number d []
 unfolding number_for
-number-none d n e = ap (λ (r : Reply ℕ). number_left lay_number r []) (sym e)
+number_none d n e = ap (λ (r : Reply ℕ). number_left lay_number r []) (sym e)
 
-pub words-none : (d : Reply ℕ) → [] ≡ words_left lay_number d []
+pub words_none : (d : Reply ℕ) → [] ≡ words_left lay_number d []
 unfolding words_for
-words-none (given n) = refl
-words-none (refused number alone) = refl
-words-none (refused number (tested count)) = refl
-words-none (refused number (in_header level directory)) = refl
-words-none (refused number (in_entry level index directory)) = refl
+words_none (given n) = refl
+words_none (refused number alone) = refl
+words_none (refused number (tested count)) = refl
+words_none (refused number (in_header level directory)) = refl
+words_none (refused number (in_entry level index directory)) = refl
 
-pub bytes-none : (d : Reply ℕ) (after : Reply ℕ → List ℕ) (before : List ℕ) → ((number : ℕ) (carried : Carried) → after (refused number carried) ≡ before) → before ≡ bytes_left lay_number d after before []
+pub bytes_none : (d : Reply ℕ) (after : Reply ℕ → List ℕ) (before : List ℕ) → ((number : ℕ) (carried : Carried) → after (refused number carried) ≡ before) → before ≡ bytes_left lay_number d after before []
 unfolding bytes_left
-bytes-none (given n) after before h = refl
-bytes-none (refused number alone) after before h = sym (h number alone)
-bytes-none (refused number (tested count)) after before h = refl
-bytes-none (refused number (in_header level directory)) after before h = refl
-bytes-none (refused number (in_entry level index directory)) after before h = refl
+bytes_none (given n) after before h = refl
+bytes_none (refused number alone) after before h = sym (h number alone)
+bytes_none (refused number (tested count)) after before h = refl
+bytes_none (refused number (in_header level directory)) after before h = refl
+bytes_none (refused number (in_entry level index directory)) after before h = refl

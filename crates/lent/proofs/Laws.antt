@@ -12,22 +12,22 @@ use Rattle.lent.specs.Lent.{lay_carried, number_for, words_for, number_left, wor
 
 module _ (vs ws : List ℕ) where
   -- values that do not fit
-  pub number-12 : (n : ℕ) → length ws < length vs → 12 ≡ number_for n vs ws
+  pub number_12 : (n : ℕ) → length ws < length vs → 12 ≡ number_for n vs ws
   unfolding number_for
-  number-12 n p = rw (lt-leb _ _ p)
+  number_12 n p = rw (lt-leb _ _ p)
 
-  pub words-12 : length ws < length vs → ws ≡ words_for vs ws
+  pub words_12 : length ws < length vs → ws ≡ words_for vs ws
   unfolding words_for
-  words-12 p = rw (lt-leb _ _ p)
+  words_12 p = rw (lt-leb _ _ p)
 
   -- values that fit
   pub number_fits : (n : ℕ) → length vs ≤ length ws → n ≡ number_for n vs ws
   unfolding number_for
   number_fits n p = rw (le-leb _ _ p)
 
-  pub words-fits : length vs ≤ length ws → vs ++ drop (length vs) ws ≡ words_for vs ws
+  pub words_fits : length vs ≤ length ws → vs ++ drop (length vs) ws ≡ words_for vs ws
   unfolding words_for
-  words-fits p = rw (le-leb _ _ p)
+  words_fits p = rw (le-leb _ _ p)
 
 -- the first i values copied
 abbrev pub copied : List ℕ → List ℕ → ℕ → List ℕ
@@ -45,33 +45,33 @@ module _ (vs ws now : List ℕ) (i : ℕ) (inv : now ≡ copied vs ws i) where
       ∙ (ap (λ (l : List ℕ). l ++ drop (suc i) ws) (sym (take-suc vs i 0 p))
       ∙ ap (copied vs ws) one))))
 
-  pub copy-end : i ≤ length vs → length vs ≤ i → length vs ≤ length ws → now ≡ words_for vs ws
-  copy-end p q fits =
+  pub copy_end : i ≤ length vs → length vs ≤ i → length vs ≤ length ws → now ≡ words_for vs ws
+  copy_end p q fits =
       let all : i ≡ length vs = omega arith in
-      inv ∙ (ap (copied vs ws) all ∙ (ap (λ (l : List ℕ). l ++ drop (length vs) ws) (take-length vs) ∙ words-fits vs ws fits))
+      inv ∙ (ap (copied vs ws) all ∙ (ap (λ (l : List ℕ). l ++ drop (length vs) ws) (take-length vs) ∙ words_fits vs ws fits))
 
 -- what an export leaves, once its reply is known: what it gives, a number with a count, a fault with its place, or a number alone
 module _ {A : Type 0} (lay : A → List ℕ) (d : Reply A) (ws : List ℕ) where
-  pub given-number : (a : A) (k : ℕ) → d ≡ given a → k ≡ number_for 0 (lay a) ws → k ≡ number_left lay d ws
-  given-number a k e h = h ∙ ap (λ (r : Reply A). number_left lay r ws) (sym e)
+  pub given_number : (a : A) (k : ℕ) → d ≡ given a → k ≡ number_for 0 (lay a) ws → k ≡ number_left lay d ws
+  given_number a k e h = h ∙ ap (λ (r : Reply A). number_left lay r ws) (sym e)
 
-  pub given-words : (a : A) (after : List ℕ) → d ≡ given a → after ≡ words_for (lay a) ws → after ≡ words_left lay d ws
-  given-words a after e h = h ∙ ap (λ (r : Reply A). words_left lay r ws) (sym e)
+  pub given_words : (a : A) (after : List ℕ) → d ≡ given a → after ≡ words_for (lay a) ws → after ≡ words_left lay d ws
+  given_words a after e h = h ∙ ap (λ (r : Reply A). words_left lay r ws) (sym e)
 
-  pub tested-number : (n count k : ℕ) → d ≡ refused n (tested count) → k ≡ number_for n (count ∷ []) ws → k ≡ number_left lay d ws
-  tested-number n count k e h = h ∙ ap (λ (r : Reply A). number_left lay r ws) (sym e)
+  pub tested_number : (n count k : ℕ) → d ≡ refused n (tested count) → k ≡ number_for n (count ∷ []) ws → k ≡ number_left lay d ws
+  tested_number n count k e h = h ∙ ap (λ (r : Reply A). number_left lay r ws) (sym e)
 
-  pub tested-words : (n count : ℕ) (after : List ℕ) → d ≡ refused n (tested count) → after ≡ words_for (count ∷ []) ws → after ≡ words_left lay d ws
-  tested-words n count after e h = h ∙ ap (λ (r : Reply A). words_left lay r ws) (sym e)
+  pub tested_words : (n count : ℕ) (after : List ℕ) → d ≡ refused n (tested count) → after ≡ words_for (count ∷ []) ws → after ≡ words_left lay d ws
+  tested_words n count after e h = h ∙ ap (λ (r : Reply A). words_left lay r ws) (sym e)
 
-  pub fault-number : (why : Fault) (k : ℕ) → d ≡ refused why.number (carried_of why.met) → k ≡ number_for why.number (lay_carried (carried_of why.met)) ws → k ≡ number_left lay d ws
-  fault-number why k e h = h ∙ ap (λ (r : Reply A). number_left lay r ws) (sym e)
+  pub fault_number : (why : Fault) (k : ℕ) → d ≡ refused why.number (carried_of why.met) → k ≡ number_for why.number (lay_carried (carried_of why.met)) ws → k ≡ number_left lay d ws
+  fault_number why k e h = h ∙ ap (λ (r : Reply A). number_left lay r ws) (sym e)
 
-  pub fault-words : (why : Fault) (after : List ℕ) → d ≡ refused why.number (carried_of why.met) → after ≡ words_for (lay_carried (carried_of why.met)) ws → after ≡ words_left lay d ws
-  fault-words why after e h = h ∙ ap (λ (r : Reply A). words_left lay r ws) (sym e)
+  pub fault_words : (why : Fault) (after : List ℕ) → d ≡ refused why.number (carried_of why.met) → after ≡ words_for (lay_carried (carried_of why.met)) ws → after ≡ words_left lay d ws
+  fault_words why after e h = h ∙ ap (λ (r : Reply A). words_left lay r ws) (sym e)
 
-  pub alone-number : (n : ℕ) → d ≡ refused n alone → n ≡ number_left lay d ws
-  alone-number n e = number_fits [] ws n (omega arith) ∙ ap (λ (r : Reply A). number_left lay r ws) (sym e)
+  pub alone_number : (n : ℕ) → d ≡ refused n alone → n ≡ number_left lay d ws
+  alone_number n e = number_fits [] ws n (omega arith) ∙ ap (λ (r : Reply A). number_left lay r ws) (sym e)
 
-  pub alone-words : (n : ℕ) → d ≡ refused n alone → ws ≡ words_left lay d ws
-  alone-words n e = words-fits [] ws (omega arith) ∙ ap (λ (r : Reply A). words_left lay r ws) (sym e)
+  pub alone_words : (n : ℕ) → d ≡ refused n alone → ws ≡ words_left lay d ws
+  alone_words n e = words_fits [] ws (omega arith) ∙ ap (λ (r : Reply A). words_left lay r ws) (sym e)

@@ -27,9 +27,9 @@ shift_is l e =
       drop_of_length-le l {i = 8} (omega arith),
     )
 
-pub shifted-long : (l : List Post) → length l ≡ 8 → length (shifted l) ≡ 8
+pub shifted_long : (l : List Post) → length l ≡ 8 → length (shifted l) ≡ 8
 unfolding shifted
-shifted-long l e = let d = length-drop 1 l in rw length-append (omega arith)
+shifted_long l e = let d = length-drop 1 l in rw length-append (omega arith)
 
 -- ---- the oldest of those that wait, and the rest
 pub line_first : (l : List Post) (n : ℕ) → n ≤ length l → (n ≡ 0 → ⊥) → take n l ≡ get_or l 0 no_post ∷ take (n - 1) (shifted l)
@@ -41,9 +41,9 @@ line_first (a ∷ l) (suc n) h z =
     rw k (ap (λ t. a ∷ t) (sym (take-append-le n l (no_post ∷ []) (omega arith))))
 
 -- ---- one more at the end
-pub line-last : (l : List Post) (n : ℕ) (p : Post) → n < length l → take (n + 1) (set l n p) ≡ take n l ++ (p ∷ [])
-line-last l n p h = rw add-one (take-suc-set l n p h)
+pub line_last : (l : List Post) (n : ℕ) (p : Post) → n < length l → take (n + 1) (set l n p) ≡ take n l ++ (p ∷ [])
+line_last l n p h = rw add-one (take-suc-set l n p h)
 
 -- ---- the fresh mailbox
-pub fresh-is : (f : Firmware) → f ≡ fresh_firmware → mailbox_before f ≡ fresh_mailbox
-fresh-is f e = rw e
+pub fresh_is : (f : Firmware) → f ≡ fresh_firmware → mailbox_before f ≡ fresh_mailbox
+fresh_is f e = rw e

@@ -2,7 +2,7 @@
 use mathlib.Core.Path.{◌≡◌, refl, sym, ap, ◌∙◌}
 use Prim.Native.Nat.{ℕ}
 use Rattle.reply.specs.Reply.{Reply, given, refused, OneToOne}
-use Rattle.reply.proofs.ReplyLaws.{one-by}
+use Rattle.reply.proofs.ReplyLaws.{one_by}
 use Rattle.mailbox.specs.declared.Mailbox.{Mailbox}
 use Rattle.mailbox_calls.specs.declared.PostAnswer.{PostAnswer}
 use Rattle.mailbox_calls.specs.declared.PostAnswer.TheVariants as post-answer
@@ -15,17 +15,17 @@ abbrev post_back : Reply Accepted → PostAnswer
 post_back (given accepted) = post-answer.Accepted
 post_back (refused number carried) = post-answer.Refused (record { number = number })
 
-post-back : (x : PostAnswer) → post_back (told_post x) ≡ x
-post-back post-answer.Accepted = refl
-post-back (post-answer.Refused why) = refl
+post_back_lem : (x : PostAnswer) → post_back (told_post x) ≡ x
+post_back_lem post-answer.Accepted = refl
+post_back_lem (post-answer.Refused why) = refl
 
 abbrev word_back : Reply ℕ → WordAnswer
 word_back (given word) = word-answer.Word word
 word_back (refused number carried) = word-answer.Refused (record { number = number })
 
-word-back : (x : WordAnswer) → word_back (told_word x) ≡ x
-word-back (word-answer.Word word) = refl
-word-back (word-answer.Refused why) = refl
+word_back_lem : (x : WordAnswer) → word_back (told_word x) ≡ x
+word_back_lem (word-answer.Word word) = refl
+word_back_lem (word-answer.Refused why) = refl
 
 -- with the mailbox beside the answer: the pairs are the same, so both halves are
 module _ {E : Type 0} {A : Type 0} (told : E → Reply A) (one : OneToOne told) where
@@ -35,15 +35,15 @@ module _ {E : Type 0} {A : Type 0} (told : E → Reply A) (one : OneToOne told) 
       (ap (λ (a : After (Reply A)). a.mailbox) e, one x y (ap (λ (a : After (Reply A)). a.answer) e))
 
 one_post : OneToOne told_post
-one_post = one-by told_post post_back post-back
+one_post = one_by told_post post_back post_back_lem
 
 one_word : OneToOne told_word
-one_word = one-by told_word word_back word-back
+one_word = one_by told_word word_back word_back_lem
 
 pub settled : Settled
 settled = record {
   post = one_post;
   word = one_word;
-  after-post = λ promised x y p q. let s = beside told_post one_post promised x.mailbox y.mailbox x.answer y.answer p q in λ i. record { mailbox = s.0 i; answer = s.1 i };
-  after-take = λ promised x y p q. let s = beside told_word one_word promised x.mailbox y.mailbox x.answer y.answer p q in λ i. record { mailbox = s.0 i; answer = s.1 i };
+  after_post = λ promised x y p q. let s = beside told_post one_post promised x.mailbox y.mailbox x.answer y.answer p q in λ i. record { mailbox = s.0 i; answer = s.1 i };
+  after_take = λ promised x y p q. let s = beside told_word one_word promised x.mailbox y.mailbox x.answer y.answer p q in λ i. record { mailbox = s.0 i; answer = s.1 i };
 }

@@ -9,5 +9,5 @@ pub record Settled : Type 0 where
   pub post : OneToOne told_post
   pub word : OneToOne told_word
   -- the same with the mailbox beside the answer
-  pub after-post : (promised : After (Reply Accepted)) (x y : AfterPost) → told_after_post x ≡ promised → told_after_post y ≡ promised → x ≡ y
-  pub after-take : (promised : After (Reply ℕ)) (x y : AfterTake) → told_after_take x ≡ promised → told_after_take y ≡ promised → x ≡ y
+  pub after_post : (promised : After (Reply Accepted)) (x y : AfterPost) → told_after_post x ≡ promised → told_after_post y ≡ promised → x ≡ y
+  pub after_take : (promised : After (Reply ℕ)) (x y : AfterTake) → told_after_take x ≡ promised → told_after_take y ≡ promised → x ≡ y

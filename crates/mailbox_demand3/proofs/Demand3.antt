@@ -18,42 +18,42 @@ use Rattle.mailbox.specs.declared.Mailbox.{Mailbox}
 use Rattle.mailbox.specs.Machine.{post_by, no_post, waiting, place_with, state_of, with_oldest, with_response, mailbox_before}
 use Rattle.mailbox.specs.Consistent.{posts_fit, register_fits, once, times_in, register_holds, waits, consistent_of}
 use Rattle.mailbox_calls.specs.Calls.{After}
-use Rattle.mailbox.proofs.ConsistentLaws.{times-append}
-use Rattle.mailbox.proofs.Facts.{consistent-test, room}
-use Rattle.mailbox_demand3.specs.Calls.{Sixteen, Call, post, load, turn, unload, take-word, Seen, posted, loaded, turned, unloaded, took, seen_as, call_of, number_in, acted_in}
+use Rattle.mailbox.proofs.ConsistentLaws.{times_append}
+use Rattle.mailbox.proofs.Facts.{consistent_test, room}
+use Rattle.mailbox_demand3.specs.Calls.{Sixteen, Call, post, load, turn, unload, take_word, Seen, posted, loaded, turned, unloaded, took, seen_as, call_of, number_in, acted_in}
 use Rattle.mailbox_demand3.specs.Log.{Log, no_log, noted, Run, from, stepped, played}
 use Rattle.mailbox_demand3.specs.Sequence.{state_after, answers_to, words_of}
 use Rattle.mailbox_demand3.specs.Demand3.{Begins, untaken, Joins, Loads, Turns, Unloads, Takes, Demand3, DemandThreeFrom, DemandThree}
-use Rattle.mailbox_demand3.proofs.SequenceLaws.{answers-append, words_append, words_count}
-use Rattle.mailbox_demand3.proofs.Outcome.{Outcome, nothing, joins, loads, turns, unloads, takes, outcome, join_is, load_is, turn_is, unload-is, take-is}
-use Rattle.mailbox_demand3.proofs.Kept.{Holds, ready, answered, Kept, at_same, at_other, join-line, join_kept, load_line, load_kept, turn-kept, unload-low, unload-kept, take-kept}
+use Rattle.mailbox_demand3.proofs.SequenceLaws.{answers_append, words_append, words_count}
+use Rattle.mailbox_demand3.proofs.Outcome.{Outcome, nothing, joins, loads, turns, unloads, takes, outcome, join_is, load_is, turn_is, unload_is, take_is}
+use Rattle.mailbox_demand3.proofs.Kept.{Holds, ready, answered, Kept, at_same, at_other, join_line, join_kept, load_line, load_kept, turn_kept, unload_low, unload_kept, take_kept}
 
 -- ---- every run keeps it
 good : {start : Firmware} (m : Mailbox) (g : Log) → Kept start m g → true ≡ consistent_of m
-good m g k = sym (consistent-test m k.good)
+good m g k = sym (consistent_test m k.good)
 
 changed : {start : Firmware} (m : Mailbox) (g : Log) (k : Kept start m g) {s : After Seen} → Outcome m s → Kept start s.mailbox (noted g s.answer)
 changed {start} m g k (nothing s same n idle) = subst (Kept start m) (sym (same g)) k
-changed m g k (joins c n d h l e) = join_kept m g k c n d h l e (room m c k.line_long (consistent-test m k.good) h e)
+changed m g k (joins c n d h l e) = join_kept m g k c n d h l e (room m c k.line_long (consistent_test m k.good) h e)
 changed m g k (loads e n) = load_kept m g k e n
-changed m g k (turns c w e) = turn-kept m g k c w e
-changed m g k (unloads c w e) = unload-kept m g k c w e
-changed m g k (takes c w h e) = take-kept m g k c w h e
+changed m g k (turns c w e) = turn_kept m g k c w e
+changed m g k (unloads c w e) = unload_kept m g k c w e
+changed m g k (takes c w h e) = take_kept m g k c w h e
 
-pub run-kept : {start : Firmware} (calls : List Call) (r : Run) → Kept start r.mailbox r.log → Kept start (played call_of r calls).mailbox (played call_of r calls).log
+pub run_kept : {start : Firmware} (calls : List Call) (r : Run) → Kept start r.mailbox r.log → Kept start (played call_of r calls).mailbox (played call_of r calls).log
 unfolding played
-run-kept [] r k = k
-run-kept (call ∷ calls) r k = run-kept calls (stepped call_of r call) (changed r.mailbox r.log k (outcome r.mailbox (good r.mailbox r.log k) call))
+run_kept [] r k = k
+run_kept (call ∷ calls) r k = run_kept calls (stepped call_of r call) (changed r.mailbox r.log k (outcome r.mailbox (good r.mailbox r.log k) call))
 
-all-free : (n i : ℕ) → get_or (replicate n (place_with Free)) i (place_with Free) ≡ place_with Free
-all-free zero i = refl
-all-free (suc n) zero = refl
-all-free (suc n) (suc i) = all-free n i
+all_free : (n i : ℕ) → get_or (replicate n (place_with Free)) i (place_with Free) ≡ place_with Free
+all_free zero i = refl
+all_free (suc n) zero = refl
+all_free (suc n) (suc i) = all_free n i
 
-pub start-kept : (start : Firmware) → Kept start (mailbox_before start) no_log
+pub start_kept : (start : Firmware) → Kept start (mailbox_before start) no_log
 unfolding times_in posts_fit register_fits register_holds state_after answers_to words_of
-start-kept start = record {
-  good = record { short = omega arith; posts = refl; register = refl; callers = λ c h. rw (all-free 8 c) };
+start_kept start = record {
+  good = record { short = omega arith; posts = refl; register = refl; callers = λ c h. rw (all_free 8 c) };
   line_long = refl;
   places_long = refl;
   ran = [];
@@ -62,7 +62,7 @@ start-kept start = record {
   split = refl;
   turns = refl;
   state = refl;
-  words = λ c. rw (all-free 8 c);
+  words = λ c. rw (all_free 8 c);
 }
 
 -- ---- what is kept gives what is asked
@@ -70,23 +70,23 @@ begins : (start : Firmware) (c : ℕ) (had left : List ℕ) (l ran rest : List P
     → Begins had (words_of c (answers_to start l))
 begins start c had left l ran rest e w =
     let later = words_of c (answers_to (state_after start ran) rest) in
-    (left ++ later, rw (e, answers-append, words_append, ← w, append_assoc))
+    (left ++ later, rw (e, answers_append, words_append, ← w, append_assoc))
 
 -- the posts in the register and its response are the caller's as often as the register says
-inside-count : (c : ℕ) (r : Phase) (inside : List Post) → Holds r inside → times_in c inside + length (answered c r) ≡ register_holds c r
+inside_count : (c : ℕ) (r : Phase) (inside : List Post) → Holds r inside → times_in c inside + length (answered c r) ≡ register_holds c r
 unfolding times_in register_holds
-inside-count c Idle inside e = rw e
-inside-count c (Command k w) inside h = rw (h.1, h.2) (omega arith)
-inside-count c (Response k w) inside e = rw e (go (eqb k c))
+inside_count c Idle inside e = rw e
+inside_count c (Command k w) inside h = rw (h.1, h.2) (omega arith)
+inside_count c (Response k w) inside e = rw e (go (eqb k c))
   where
     go : (b : Bool) → 0 + length (cond b (w ∷ []) []) ≡ once b
     go true = refl
     go false = refl
 
-ready-count : (s : PlaceState) → length (ready s) + waits s ≡ untaken s
-ready-count Free = refl
-ready-count Waiting = refl
-ready-count (Ready w) = refl
+ready_count : (s : PlaceState) → length (ready s) + waits s ≡ untaken s
+ready_count Free = refl
+ready_count Waiting = refl
+ready_count (Ready w) = refl
 
 -- the phases are told apart by a number
 abbrev phase_number : Phase → ℕ
@@ -95,25 +95,25 @@ phase_number (Command k w) = 1
 phase_number (Response k w) = 2
 
 module _ {start : Firmware} (m : Mailbox) (g : Log) (k : Kept start m g) where
-  words-begin : (c : ℕ) → Begins (words_of c g.taken) (words_of c (answers_to start g.line))
-  words-begin c = begins start c (words_of c g.taken) (ready (state_of m c) ++ answered c m.register) g.line k.ran (k.inside ++ waiting m) k.split (k.words c)
+  words_begin : (c : ℕ) → Begins (words_of c g.taken) (words_of c (answers_to start g.line))
+  words_begin c = begins start c (words_of c g.taken) (ready (state_of m c) ++ answered c m.register) g.line k.ran (k.inside ++ waiting m) k.split (k.words c)
 
-  none-lost : (c : ℕ) → c ≤ 7 → length (words_of c (answers_to start g.line)) ≡ length (words_of c g.taken) + untaken (state_of m c)
-  none-lost c h =
+  none_lost : (c : ℕ) → c ≤ 7 → length (words_of c (answers_to start g.line)) ≡ length (words_of c g.taken) + untaken (state_of m c)
+  none_lost c h =
       let all : length (words_of c (answers_to start g.line)) ≡ times_in c g.line = words_count c start g.line in
-      let line : times_in c g.line ≡ times_in c k.ran + (times_in c k.inside + times_in c (waiting m)) = rw (k.split, times-append c k.ran, times-append c k.inside) in
+      let line : times_in c g.line ≡ times_in c k.ran + (times_in c k.inside + times_in c (waiting m)) = rw (k.split, times_append c k.ran, times_append c k.inside) in
       let done : length (words_of c (answers_to start k.ran)) ≡ times_in c k.ran = words_count c start k.ran in
       let had : length (words_of c g.taken) + (length (ready (state_of m c)) + length (answered c m.register)) ≡ length (words_of c (answers_to start k.ran)) = simp length-append at (ap length (k.words c)) in
-      let one = inside-count c m.register k.inside k.holds in
-      let two = ready-count (state_of m c) in
+      let one = inside_count c m.register k.inside k.holds in
+      let two = ready_count (state_of m c) in
       let three = k.good.callers c h in
       omega arith
 
   reaches : g.turns ≤ length g.line
   reaches = let h = k.turns in rw (k.split, length-append) (omega arith)
 
-  state-is : m.firmware ≡ state_after start (take g.turns g.line)
-  state-is = k.state ∙ ap (state_after start) (sym (ap (take g.turns) k.split ∙ take_at k.ran _ g.turns (sym k.turns)))
+  state_is : m.firmware ≡ state_after start (take g.turns g.line)
+  state_is = k.state ∙ ap (state_after start) (sym (ap (take g.turns) k.split ∙ take_at k.ran _ g.turns (sym k.turns)))
 
   fives : {s : After Seen} → Outcome m s → number_in s.answer ≡ 5 → ⊥
   fives (nothing s same n idle) e = n e
@@ -150,25 +150,25 @@ module _ {start : Firmware} (m : Mailbox) (g : Log) (k : Kept start m g) where
       (record {
         answer = refl;
         register = refl;
-        line = join-line m g k c n d h l e (room m c k.line_long (consistent-test m k.good) h e);
+        line = join_line m g k c n d h l e (room m c k.line_long (consistent_test m k.good) h e);
         place = at_same m.places c Waiting (long c h);
         others = at_other m.places c Waiting;
         firmware = refl;
       })
 
   module _ (idle : m.register ≡ Idle) (more : g.turns < length g.line) where
-    line-is : g.line ≡ k.ran ++ waiting m
-    line-is = let e : k.inside ≡ [] = subst (λ r. Holds r k.inside) idle k.holds in k.split ∙ rw e
+    line_is : g.line ≡ k.ran ++ waiting m
+    line_is = let e : k.inside ≡ [] = subst (λ r. Holds r k.inside) idle k.holds in k.split ∙ rw e
 
     some : m.count ≡ 0 → ⊥
     some z =
-        let l : length g.line ≡ length k.ran + length (waiting m) = ap length line-is ∙ length-append k.ran (waiting m) in
+        let l : length g.line ≡ length k.ran + length (waiting m) = ap length line_is ∙ length-append k.ran (waiting m) in
         let n : length (waiting m) ≡ 0 = rw z in
         let t = k.turns in
         omega arith
 
     oldest : get_or g.line g.turns no_post ≡ get_or m.line 0 no_post
-    oldest = rw (line-is, load_line m g k idle some) (get_or_at k.ran _ _ no_post g.turns (sym k.turns))
+    oldest = rw (line_is, load_line m g k idle some) (get_or_at k.ran _ _ no_post g.turns (sym k.turns))
 
     loading : Loads m (get_or g.line g.turns no_post) (call_of m load)
     loading =
@@ -181,27 +181,27 @@ module _ {start : Firmware} (m : Mailbox) (g : Log) (k : Kept start m g) where
 
   unloading : (c w : ℕ) → m.register ≡ Response c w → Unloads m c w (call_of m unload)
   unloading c w e =
-      subst (Unloads m c w) (ap (seen_as unloaded) (unload-is m (good m g k) c w e))
+      subst (Unloads m c w) (ap (seen_as unloaded) (unload_is m (good m g k) c w e))
       (record {
         answer = refl;
         register = refl;
         line = refl;
-        place = at_same m.places c (Ready w) (long c (unload-low m g k c w e));
+        place = at_same m.places c (Ready w) (long c (unload_low m g k c w e));
         others = at_other m.places c (Ready w);
         firmware = refl;
       })
 
-  taking : (c w : ℕ) → c ≤ 7 → state_of m c ≡ Ready w → Takes m c w (call_of m (take-word c))
+  taking : (c w : ℕ) → c ≤ 7 → state_of m c ≡ Ready w → Takes m c w (call_of m (take_word c))
   taking c w h e =
-      subst (Takes m c w) (ap (seen_as (took c)) (take-is m (good m g k) c w h e))
+      subst (Takes m c w) (ap (seen_as (took c)) (take_is m (good m g k) c w h e))
       (record { answer = refl; register = refl; line = refl; place = at_same m.places c Free (long c h); others = at_other m.places c Free; firmware = refl })
 
   pub asked : Demand3 call_of start m g
   asked = record {
-    words = words-begin;
-    kept = none-lost;
+    words = words_begin;
+    kept = none_lost;
     reached = reaches;
-    firmware = state-is;
+    firmware = state_is;
     never5 = λ call. fives (outcome m (good m g k) call);
     stays = λ call. staying (outcome m (good m g k) call);
     acts = λ call. acting (outcome m (good m g k) call);
@@ -213,11 +213,11 @@ module _ {start : Firmware} (m : Mailbox) (g : Log) (k : Kept start m g) where
   }
 
 -- before firmware in any state
-pub demand3-from : DemandThreeFrom
-demand3-from start calls =
+pub demand3_from : DemandThreeFrom
+demand3_from start calls =
     let r = played call_of (from (mailbox_before start)) calls in
-    asked r.mailbox r.log (run-kept calls (from (mailbox_before start)) (start-kept start))
+    asked r.mailbox r.log (run_kept calls (from (mailbox_before start)) (start_kept start))
 
 -- demand 3
 pub mailbox_demand3 : DemandThree
-mailbox_demand3 = demand3-from fresh_firmware
+mailbox_demand3 = demand3_from fresh_firmware

@@ -23,13 +23,13 @@ use Rattle.mailbox.specs.declared.Mailbox.{Mailbox}
 use Rattle.mailbox.specs.Machine.{post_by, no_post, command_word, waiting, place_with, state_at, state_of, joined, with_oldest, with_response, handed_over, freed}
 use Rattle.mailbox.specs.Consistent.{post_fits, posts_fit, register_fits, times_in, register_holds, waits}
 use Rattle.mailbox_calls.specs.Calls.{accepted}
-use Rattle.mailbox.proofs.ConsistentLaws.{times-append, fit_append}
-use Rattle.mailbox.proofs.LineLaws.{shifted-long, line_first, line-last}
+use Rattle.mailbox.proofs.ConsistentLaws.{times_append, fit_append}
+use Rattle.mailbox.proofs.LineLaws.{shifted_long, line_first, line_last}
 use Rattle.mailbox.proofs.Facts.{Consistent, both}
 use Rattle.mailbox_demand3.specs.Calls.{posted, loaded, turned, unloaded, took}
 use Rattle.mailbox_demand3.specs.Log.{got, Log, noted}
 use Rattle.mailbox_demand3.specs.Sequence.{state_after, answers_to, words_of}
-use Rattle.mailbox_demand3.proofs.SequenceLaws.{state-append, answers-append, words_append}
+use Rattle.mailbox_demand3.proofs.SequenceLaws.{state_append, answers_append, words_append}
 
 -- the accepted posts that the register holds as commands
 abbrev pub Holds : Phase → List Post → Type 0
@@ -86,35 +86,35 @@ module _ {start : Firmware} (m : Mailbox) (g : Log) (k : Kept start m g) where
     abbrev p : Post
     p = post_by c n d
 
-    pub join-line : waiting (joined m c n d) ≡ waiting m ++ (p ∷ [])
-    join-line = line-last m.line m.count p (let h = k.line_long in omega arith)
+    pub join_line : waiting (joined m c n d) ≡ waiting m ++ (p ∷ [])
+    join_line = line_last m.line m.count p (let h = k.line_long in omega arith)
 
-    join-fits : posts_fit (waiting m ++ (p ∷ [])) ≡ true
+    join_fits : posts_fit (waiting m ++ (p ∷ [])) ≡ true
     unfolding posts_fit
-    join-fits = rw (fit_append, k.good.posts, le-leb _ _ low, le-leb _ _ fit)
+    join_fits = rw (fit_append, k.good.posts, le-leb _ _ low, le-leb _ _ fit)
 
-    join-callers : (i : ℕ) → i ≤ 7 → times_in i (waiting m ++ (p ∷ [])) + register_holds i m.register ≡ waits (state_of (joined m c n d) i)
+    join_callers : (i : ℕ) → i ≤ 7 → times_in i (waiting m ++ (p ∷ [])) + register_holds i m.register ≡ waits (state_of (joined m c n d) i)
     unfolding times_in
-    join-callers =
+    join_callers =
         at_every (λ i s. i ≤ 7 → times_in i (waiting m ++ (p ∷ [])) + register_holds i m.register ≡ waits s) m.places c Waiting (long c low)
-        (λ h. let q : times_in c (waiting m) + register_holds c m.register ≡ 0 = rw is_free at (k.good.callers c h) in rw (times-append, eq-eqb c c refl) (omega arith))
-        (λ i ne h. let q = k.good.callers i h in rw (times-append, ne_eqb c i (λ e. ne (sym e))) (omega arith))
+        (λ h. let q : times_in c (waiting m) + register_holds c m.register ≡ 0 = rw is_free at (k.good.callers c h) in rw (times_append, eq-eqb c c refl) (omega arith))
+        (λ i ne h. let q = k.good.callers i h in rw (times_append, ne_eqb c i (λ e. ne (sym e))) (omega arith))
 
-    join-words : (i : ℕ) → ready (state_of (joined m c n d) i) ≡ ready (state_of m i)
-    join-words = at_every (λ i s. ready s ≡ ready (state_of m i)) m.places c Waiting (long c low) (rw is_free) (λ i ne. refl)
+    join_words : (i : ℕ) → ready (state_of (joined m c n d) i) ≡ ready (state_of m i)
+    join_words = at_every (λ i s. ready s ≡ ready (state_of m i)) m.places c Waiting (long c low) (rw is_free) (λ i ne. refl)
 
     pub join_kept : Kept start (joined m c n d) (noted g (posted c n d (given accepted)))
     join_kept = record {
-      good = record { short = omega arith; posts = rw join-line join-fits; register = k.good.register; callers = λ i h. rw join-line (join-callers i h) };
+      good = record { short = omega arith; posts = rw join_line join_fits; register = k.good.register; callers = λ i h. rw join_line (join_callers i h) };
       line_long = length-set m.line m.count p ∙ k.line_long;
       places_long = length-set m.places c (place_with Waiting) ∙ k.places_long;
       ran = k.ran;
       inside = k.inside;
       holds = k.holds;
-      split = rw (join-line, k.split) (simp append_assoc);
+      split = rw (join_line, k.split) (simp append_assoc);
       turns = k.turns;
       state = k.state;
-      words = λ i. rw (join-words i) (k.words i);
+      words = λ i. rw (join_words i) (k.words i);
     }
 
   -- ---- load
@@ -129,13 +129,13 @@ module _ {start : Firmware} (m : Mailbox) (g : Log) (k : Kept start m g) where
     unfolding posts_fit
     load_fits = rw load_line at k.good.posts
 
-    load-command : leb (command_word first / 0x1_0000) 0x3FF ≡ true
+    load_command : leb (command_word first / 0x1_0000) 0x3FF ≡ true
     unfolding word_of
-    load-command = let h : command_word first / 0x1_0000 ≤ 0x3FF = omega arith in le-leb _ _ h
+    load_command = let h : command_word first / 0x1_0000 ≤ 0x3FF = omega arith in le-leb _ _ h
 
-    load-callers : (i : ℕ) → i ≤ 7 → times_in i (waiting (with_oldest m)) + register_holds i (with_oldest m).register ≡ waits (state_of m i)
+    load_callers : (i : ℕ) → i ≤ 7 → times_in i (waiting (with_oldest m)) + register_holds i (with_oldest m).register ≡ waits (state_of m i)
     unfolding times_in register_holds
-    load-callers i h = let q = rw (load_line, idle) at (k.good.callers i h) in omega arith
+    load_callers i h = let q = rw (load_line, idle) at (k.good.callers i h) in omega arith
 
     load_inside : k.inside ≡ []
     load_inside = subst (λ r. Holds r k.inside) idle k.holds
@@ -146,8 +146,8 @@ module _ {start : Firmware} (m : Mailbox) (g : Log) (k : Kept start m g) where
         let b = both (post_fits first) (posts_fit (waiting (with_oldest m))) load_fits in
         let f = both (leb first.caller 7) (leb first.command 0x3FF) b.0 in
         record {
-          good = record { short = let h = k.good.short in omega arith; posts = b.1; register = rw (f.0, load-command); callers = load-callers };
-          line_long = shifted-long m.line k.line_long;
+          good = record { short = let h = k.good.short in omega arith; posts = b.1; register = rw (f.0, load_command); callers = load_callers };
+          line_long = shifted_long m.line k.line_long;
           places_long = k.places_long;
           ran = k.ran;
           inside = first ∷ [];
@@ -164,24 +164,24 @@ module _ {start : Firmware} (m : Mailbox) (g : Log) (k : Kept start m g) where
     unfolding register_fits
     turn_low = (both _ _ (rw is at k.good.register)).0
 
-    turn-callers : (i : ℕ) → i ≤ 7 → times_in i (waiting m) + register_holds i (with_response m c w).register ≡ waits (state_of m i)
+    turn_callers : (i : ℕ) → i ≤ 7 → times_in i (waiting m) + register_holds i (with_response m c w).register ≡ waits (state_of m i)
     unfolding register_holds
-    turn-callers i h = let q = rw is at (k.good.callers i h) in omega arith
+    turn_callers i h = let q = rw is at (k.good.callers i h) in omega arith
 
     turn_inside : Holds (Command c w) k.inside
     turn_inside = subst (λ r. Holds r k.inside) is k.holds
 
-    turn-words : (i : ℕ) (p : Post) → p.caller ≡ c → command_word p ≡ w
+    turn_words : (i : ℕ) (p : Post) → p.caller ≡ c → command_word p ≡ w
         → words_of i g.taken ++ (ready (state_of m i) ++ answered i (with_response m c w).register) ≡ words_of i (answers_to start (k.ran ++ (p ∷ [])))
     unfolding words_of answers_to
-    turn-words i p e q =
+    turn_words i p e q =
         let h : words_of i g.taken ++ ready (state_of m i) ≡ words_of i (answers_to start k.ran) = rw (is, append-nil) at (k.words i) in
-        rw (answers-append, words_append, e, q, ← h, ← k.state, append_assoc)
+        rw (answers_append, words_append, e, q, ← h, ← k.state, append_assoc)
 
-    turn-to : (p : Post) → k.inside ≡ p ∷ [] → p.caller ≡ c → command_word p ≡ w → Kept start (with_response m c w) (noted g (turned (given true)))
+    turn_to : (p : Post) → k.inside ≡ p ∷ [] → p.caller ≡ c → command_word p ≡ w → Kept start (with_response m c w) (noted g (turned (given true)))
     unfolding register_fits state_after
-    turn-to p only e q = record {
-      good = record { short = k.good.short; posts = k.good.posts; register = turn_low; callers = turn-callers };
+    turn_to p only e q = record {
+      good = record { short = k.good.short; posts = k.good.posts; register = turn_low; callers = turn_callers };
       line_long = k.line_long;
       places_long = k.places_long;
       ran = k.ran ++ (p ∷ []);
@@ -189,18 +189,18 @@ module _ {start : Firmware} (m : Mailbox) (g : Log) (k : Kept start m g) where
       holds = refl;
       split = k.split ∙ rw (only, append_assoc);
       turns = let h = k.turns in rw length-append (omega arith);
-      state = rw (state-append, ← k.state, ← q);
-      words = λ i. turn-words i p e q;
+      state = rw (state_append, ← k.state, ← q);
+      words = λ i. turn_words i p e q;
     }
 
-    pub turn-kept : Kept start (with_response m c w) (noted g (turned (given true)))
-    turn-kept = let h = turn_inside in turn-to h.0 h.1 h.2 h.3
+    pub turn_kept : Kept start (with_response m c w) (noted g (turned (given true)))
+    turn_kept = let h = turn_inside in turn_to h.0 h.1 h.2 h.3
 
   -- ---- unload
   module _ (c w : ℕ) (is : m.register ≡ Response c w) where
-    pub unload-low : c ≤ 7
+    pub unload_low : c ≤ 7
     unfolding register_fits
-    unload-low = leb-true c 7 (rw is at k.good.register)
+    unload_low = leb-true c 7 (rw is at k.good.register)
 
     waits_one : (s : PlaceState) → 1 ≤ waits s → s ≡ Waiting
     waits_one Free h = absurd (omega arith)
@@ -208,26 +208,26 @@ module _ {start : Firmware} (m : Mailbox) (g : Log) (k : Kept start m g) where
     waits_one (Ready v) h = absurd (omega arith)
 
     -- the caller's place waits
-    unload-waits : state_of m c ≡ Waiting
+    unload_waits : state_of m c ≡ Waiting
     unfolding register_holds
-    unload-waits = waits_one (state_of m c) (let q = rw (is, eq-eqb c c refl) at (k.good.callers c unload-low) in omega arith)
+    unload_waits = waits_one (state_of m c) (let q = rw (is, eq-eqb c c refl) at (k.good.callers c unload_low) in omega arith)
 
-    unload-callers : (i : ℕ) → i ≤ 7 → times_in i (waiting m) + register_holds i Idle ≡ waits (state_of (handed_over m c w) i)
+    unload_callers : (i : ℕ) → i ≤ 7 → times_in i (waiting m) + register_holds i Idle ≡ waits (state_of (handed_over m c w) i)
     unfolding register_holds
-    unload-callers =
-        at_every (λ i s. i ≤ 7 → times_in i (waiting m) + 0 ≡ waits s) m.places c (Ready w) (long c unload-low)
-        (λ h. let q = rw (is, unload-waits, eq-eqb c c refl) at (k.good.callers c h) in omega arith)
+    unload_callers =
+        at_every (λ i s. i ≤ 7 → times_in i (waiting m) + 0 ≡ waits s) m.places c (Ready w) (long c unload_low)
+        (λ h. let q = rw (is, unload_waits, eq-eqb c c refl) at (k.good.callers c h) in omega arith)
         (λ i ne h. rw (is, ne_eqb c i (λ e. ne (sym e))) at (k.good.callers i h))
 
-    unload-words : (i : ℕ) → ready (state_of (handed_over m c w) i) ++ [] ≡ ready (state_of m i) ++ answered i m.register
-    unload-words =
-        at_every (λ i s. ready s ++ [] ≡ ready (state_of m i) ++ answered i m.register) m.places c (Ready w) (long c unload-low)
-        (rw (unload-waits, is, eq-eqb c c refl)) (λ i ne. rw (is, ne_eqb c i (λ e. ne (sym e))))
+    unload_words : (i : ℕ) → ready (state_of (handed_over m c w) i) ++ [] ≡ ready (state_of m i) ++ answered i m.register
+    unload_words =
+        at_every (λ i s. ready s ++ [] ≡ ready (state_of m i) ++ answered i m.register) m.places c (Ready w) (long c unload_low)
+        (rw (unload_waits, is, eq-eqb c c refl)) (λ i ne. rw (is, ne_eqb c i (λ e. ne (sym e))))
 
-    pub unload-kept : Kept start (handed_over m c w) (noted g (unloaded (given true)))
+    pub unload_kept : Kept start (handed_over m c w) (noted g (unloaded (given true)))
     unfolding register_fits
-    unload-kept = record {
-      good = record { short = k.good.short; posts = k.good.posts; register = refl; callers = unload-callers };
+    unload_kept = record {
+      good = record { short = k.good.short; posts = k.good.posts; register = refl; callers = unload_callers };
       line_long = k.line_long;
       places_long = length-set m.places c (place_with (Ready w)) ∙ k.places_long;
       ran = k.ran;
@@ -236,13 +236,13 @@ module _ {start : Firmware} (m : Mailbox) (g : Log) (k : Kept start m g) where
       split = k.split;
       turns = k.turns;
       state = k.state;
-      words = λ i. ap (λ t. words_of i g.taken ++ t) (unload-words i) ∙ k.words i;
+      words = λ i. ap (λ t. words_of i g.taken ++ t) (unload_words i) ∙ k.words i;
     }
 
   -- ---- take
   module _ (c w : ℕ) (low : c ≤ 7) (is : state_of m c ≡ Ready w) where
-    take-callers : (i : ℕ) → i ≤ 7 → times_in i (waiting m) + register_holds i m.register ≡ waits (state_of (freed m c) i)
-    take-callers =
+    take_callers : (i : ℕ) → i ≤ 7 → times_in i (waiting m) + register_holds i m.register ≡ waits (state_of (freed m c) i)
+    take_callers =
         at_every (λ i s. i ≤ 7 → times_in i (waiting m) + register_holds i m.register ≡ waits s) m.places c Free (long c low)
         (λ h. rw is at (k.good.callers c h)) (λ i ne h. k.good.callers i h)
 
@@ -254,9 +254,9 @@ module _ {start : Firmware} (m : Mailbox) (g : Log) (k : Kept start m g) where
         (λ i s. words_of i (g.taken ++ (got c w ∷ [])) ++ (ready s ++ answered i m.register) ≡ words_of i g.taken ++ (ready (state_of m i) ++ answered i m.register))
         m.places c Free (long c low) (rw (words_append, is, eq-eqb c c refl, append_assoc)) (λ i ne. rw (words_append, ne_eqb c i (λ e. ne (sym e)), append-nil))
 
-    pub take-kept : Kept start (freed m c) (noted g (took c (given w)))
-    take-kept = record {
-      good = record { short = k.good.short; posts = k.good.posts; register = k.good.register; callers = take-callers };
+    pub take_kept : Kept start (freed m c) (noted g (took c (given w)))
+    take_kept = record {
+      good = record { short = k.good.short; posts = k.good.posts; register = k.good.register; callers = take_callers };
       line_long = k.line_long;
       places_long = length-set m.places c (place_with Free) ∙ k.places_long;
       ran = k.ran;

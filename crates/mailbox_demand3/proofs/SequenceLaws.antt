@@ -14,15 +14,15 @@ use Rattle.mailbox.specs.Consistent.{once, times_in}
 use Rattle.mailbox_demand3.specs.Log.{Got, got}
 use Rattle.mailbox_demand3.specs.Sequence.{state_after, answers_to, words_of}
 
-pub state-append : (f : Firmware) (l l' : List Post) → state_after f (l ++ l') ≡ state_after (state_after f l) l'
+pub state_append : (f : Firmware) (l l' : List Post) → state_after f (l ++ l') ≡ state_after (state_after f l) l'
 unfolding state_after
-state-append f [] l' = refl
-state-append f (p ∷ l) l' = state-append (run_of f (command_word p)).firmware l l'
+state_append f [] l' = refl
+state_append f (p ∷ l) l' = state_append (run_of f (command_word p)).firmware l l'
 
-pub answers-append : (f : Firmware) (l l' : List Post) → answers_to f (l ++ l') ≡ answers_to f l ++ answers_to (state_after f l) l'
+pub answers_append : (f : Firmware) (l l' : List Post) → answers_to f (l ++ l') ≡ answers_to f l ++ answers_to (state_after f l) l'
 unfolding state_after answers_to
-answers-append f [] l' = refl
-answers-append f (p ∷ l) l' = ap (λ t. got p.caller (run_of f (command_word p)).word ∷ t) (answers-append (run_of f (command_word p)).firmware l l')
+answers_append f [] l' = refl
+answers_append f (p ∷ l) l' = ap (λ t. got p.caller (run_of f (command_word p)).word ∷ t) (answers_append (run_of f (command_word p)).firmware l l')
 
 pub words_append : (c : ℕ) (a b : List Got) → words_of c (a ++ b) ≡ words_of c a ++ words_of c b
 unfolding words_of

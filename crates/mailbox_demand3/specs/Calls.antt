@@ -14,7 +14,7 @@ pub data Call : Type 0 where
   load : Call
   turn : Call
   unload : Call
-  take-word : (caller : ℕ) → Call
+  take_word : (caller : ℕ) → Call
 
 -- what is seen of a call: the call, and its answer
 pub data Seen : Type 0 where
@@ -38,7 +38,7 @@ server_of posts loads turns unloads takes m (post caller command d bits) = seen_
 server_of posts loads turns unloads takes m load = seen_as loaded (loads m)
 server_of posts loads turns unloads takes m turn = seen_as turned (turns m)
 server_of posts loads turns unloads takes m unload = seen_as unloaded (unloads m)
-server_of posts loads turns unloads takes m (take-word caller) = seen_as (took caller) (takes m caller)
+server_of posts loads turns unloads takes m (take_word caller) = seen_as (took caller) (takes m caller)
 
 -- document 01's mailbox
 abbrev pub call_of : Server

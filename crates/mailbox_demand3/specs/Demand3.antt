@@ -10,7 +10,7 @@ use Rattle.mailbox.specs.declared.Post.{Post}
 use Rattle.mailbox.specs.declared.Mailbox.{Mailbox}
 use Rattle.mailbox.specs.Machine.{post_by, no_post, command_word, waiting, state_of, mailbox_before}
 use Rattle.mailbox_calls.specs.Calls.{After, accepted}
-use Rattle.mailbox_demand3.specs.Calls.{Sixteen, Call, post, load, turn, unload, take-word, Seen, posted, loaded, turned, unloaded, took, Server, call_of, number_in, acted_in}
+use Rattle.mailbox_demand3.specs.Calls.{Sixteen, Call, post, load, turn, unload, take_word, Seen, posted, loaded, turned, unloaded, took, Server, call_of, number_in, acted_in}
 use Rattle.mailbox_demand3.specs.Log.{Log, from, played}
 use Rattle.mailbox_demand3.specs.Sequence.{state_after, answers_to, words_of}
 
@@ -96,7 +96,7 @@ pub record Demand3 (serve : Server) (start : Firmware) (m : Mailbox) (g : Log) :
   -- an unload delivers a response to its caller's place
   pub unloads : (caller word : ℕ) → m.register ≡ Response caller word → Unloads m caller word (serve m unload)
   -- a delivered word can be taken by its caller
-  pub takes : (caller word : ℕ) → caller ≤ 7 → state_of m caller ≡ Ready word → Takes m caller word (serve m (take-word caller))
+  pub takes : (caller word : ℕ) → caller ≤ 7 → state_of m caller ≡ Ready word → Takes m caller word (serve m (take_word caller))
 
 -- after every finite list of calls, from the empty mailbox before firmware in this state
 abbrev pub AfterAllFrom : Server → (start : Firmware) → Type 0

@@ -132,21 +132,21 @@ abbrev pub yes_unload : Server
 yes_unload = server_of post_of load_of turn_of (says_yes unload_of) take_of
 
 pub record RuledOut : Type 0 where
-  pub refuses-posts : AfterAll refuses → ⊥
-  pub load-idles : (says : Bool) → AfterAll (idle_load says) → ⊥
-  pub turn-idles : (says : Bool) → AfterAll (idle_turn says) → ⊥
-  pub unload-idles : (says : Bool) → AfterAll (idle_unload says) → ⊥
-  pub turn-forgets : AfterAll forgets → ⊥
-  pub first-repeated : AfterAll repeats → ⊥
-  pub takes-any : AfterAll any_take → ⊥
-  pub post-dropped : (marks : Bool) → AfterAll (drops marks) → ⊥
+  pub refuses_posts : AfterAll refuses → ⊥
+  pub load_idles : (says : Bool) → AfterAll (idle_load says) → ⊥
+  pub turn_idles : (says : Bool) → AfterAll (idle_turn says) → ⊥
+  pub unload_idles : (says : Bool) → AfterAll (idle_unload says) → ⊥
+  pub turn_forgets : AfterAll forgets → ⊥
+  pub first_repeated : AfterAll repeats → ⊥
+  pub takes_any : AfterAll any_take → ⊥
+  pub post_dropped : (marks : Bool) → AfterAll (drops marks) → ⊥
   -- a caller or a command out of range (9), and a caller that has a post outstanding (10)
-  pub range-agreed : AfterAll (agrees 9) → ⊥
-  pub outstanding-agreed : AfterAll (agrees 10) → ⊥
-  pub unloaded-twice : AfterAll unloads_again → ⊥
+  pub range_agreed : AfterAll (agrees 9) → ⊥
+  pub outstanding_agreed : AfterAll (agrees 10) → ⊥
+  pub unloaded_twice : AfterAll unloads_again → ⊥
   pub taken_twice : AfterAll takes_again → ⊥
-  pub takes-ready : AfterAll any_ready → ⊥
-  pub refusal-meddles : AfterAll meddles → ⊥
-  pub load-says-yes : AfterAll yes_load → ⊥
-  pub turn-says-yes : AfterAll yes_turn → ⊥
-  pub unload-says-yes : AfterAll yes_unload → ⊥
+  pub takes_ready : AfterAll any_ready → ⊥
+  pub refusal_meddles : AfterAll meddles → ⊥
+  pub load_says_yes : AfterAll yes_load → ⊥
+  pub turn_says_yes : AfterAll yes_turn → ⊥
+  pub unload_says_yes : AfterAll yes_unload → ⊥

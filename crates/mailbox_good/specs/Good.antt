@@ -25,19 +25,19 @@ InRegister (Response holder word) caller = holder ≡ caller
 pub record GoodMailbox (m : Mailbox) : Type 0 where
   -- each caller has at most one post, so the line has at most eight; it is in line once, or in the register, and not in both
   pub short : m.count ≤ 8
-  pub line-once : (caller i j : ℕ) → InLine m caller i → InLine m caller j → i ≡ j
-  pub line-or-register : (caller i : ℕ) → InLine m caller i → InRegister m.register caller → ⊥
+  pub line_once : (caller i j : ℕ) → InLine m caller i → InLine m caller j → i ≡ j
+  pub line_or_register : (caller i : ℕ) → InLine m caller i → InRegister m.register caller → ⊥
   -- the place of a caller with a post in line or register says that it waits: it is not free, and holds no word
-  pub line-waits : (caller i : ℕ) → InLine m caller i → state_of m caller ≡ Waiting
-  pub register-waits : (caller : ℕ) → InRegister m.register caller → state_of m caller ≡ Waiting
+  pub line_waits : (caller i : ℕ) → InLine m caller i → state_of m caller ≡ Waiting
+  pub register_waits : (caller : ℕ) → InRegister m.register caller → state_of m caller ≡ Waiting
   -- and a place that says so has its post there
-  pub waits-for-one : (caller : ℕ) → caller ≤ 7 → state_of m caller ≡ Waiting → ((i : ℕ) × InLine m caller i) ⊎ InRegister m.register caller
+  pub waits_for_one : (caller : ℕ) → caller ≤ 7 → state_of m caller ≡ Waiting → ((i : ℕ) × InLine m caller i) ⊎ InRegister m.register caller
   -- no other caller has any
-  pub line-caller : (caller i : ℕ) → InLine m caller i → caller ≤ 7
-  pub register-caller : (caller : ℕ) → InRegister m.register caller → caller ≤ 7
+  pub line_caller : (caller i : ℕ) → InLine m caller i → caller ≤ 7
+  pub register_caller : (caller : ℕ) → InRegister m.register caller → caller ≤ 7
   -- commands are at most 0x3FF: in the register, bits 31:26 of the command word are zero; a response is any word
-  pub line-command : (i : ℕ) → i < m.count → (post_at m i).command ≤ 0x3FF
-  pub register-command : (caller word : ℕ) → m.register ≡ Command caller word → word < 0x400_0000
+  pub line_command : (i : ℕ) → i < m.count → (post_at m i).command ≤ 0x3FF
+  pub register_command : (caller word : ℕ) → m.register ≡ Command caller word → word < 0x400_0000
 
 -- a test accepts exactly the good mailboxes; the line has its eight slots, as in every value of the code
 pub record BothWays (test : Mailbox → Bool) : Type 0 where

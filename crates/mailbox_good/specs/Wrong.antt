@@ -38,11 +38,11 @@ ready_too posts Waiting = eqb posts 1
 ready_too posts (Ready word) = leb posts 1
 
 pub record WrongTests : Type 0 where
-  pub right-parts : BothWays (test_with register_fits as_many)
+  pub right_parts : BothWays (test_with register_fits as_many)
   -- they accept too many
-  pub register-caller-dropped : BothWays (test_with command_fits as_many) → ⊥
-  pub waiting-with-no-post : BothWays (test_with register_fits no_more) → ⊥
-  pub ready-beside-a-post : BothWays (test_with register_fits ready_too) → ⊥
+  pub register_caller_dropped : BothWays (test_with command_fits as_many) → ⊥
+  pub waiting_with_no_post : BothWays (test_with register_fits no_more) → ⊥
+  pub ready_beside_a_post : BothWays (test_with register_fits ready_too) → ⊥
   -- they accept too few
-  pub none-accepted : BothWays (λ m. false) → ⊥
-  pub firmware-asked : BothWays (λ m. consistent_of m && m.firmware.interface) → ⊥
+  pub none_accepted : BothWays (λ m. false) → ⊥
+  pub firmware_asked : BothWays (λ m. consistent_of m && m.firmware.interface) → ⊥

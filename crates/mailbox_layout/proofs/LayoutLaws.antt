@@ -24,43 +24,43 @@ use Rattle.mailbox_layout.specs.Layout.{up_to, bit_of, part_word, post_word, pla
 use Rattle.mailbox_layout.specs.Layout.{phase_from, part_from, place_from, interrupt_from, firmware_from, unpack_of}
 
 module _ {A : Type 0} (f : ℕ → A) where
-  pub length-up_to : (n : ℕ) → length (up_to f n) ≡ n
+  pub length_up_to : (n : ℕ) → length (up_to f n) ≡ n
   unfolding up_to
-  length-up_to zero = refl
-  length-up_to (suc n) = let h = length-up_to n in length-append (up_to f n) (f n ∷ []) ∙ omega arith
+  length_up_to zero = refl
+  length_up_to (suc n) = let h = length_up_to n in length-append (up_to f n) (f n ∷ []) ∙ omega arith
 
 -- ---- a list told index by index
 module _ {A : Type 0} (f : ℕ → A) (d : A) where
   one_more : (n i : ℕ) → (i < n → get_or (up_to f n) i d ≡ f i) → (i ≡ n) ⊎ (i < n) → get_or (up_to f n ++ (f n ∷ [])) i d ≡ f i
-  one_more n i before (inl e) = rw e (get_or_at (up_to f n) (f n) [] d n (length-up_to f n))
-  one_more n i before (inr q) = let long = length-up_to f n in get_or-append (up_to f n) (f n ∷ []) d i (omega arith) ∙ before q
+  one_more n i before (inl e) = rw e (get_or_at (up_to f n) (f n) [] d n (length_up_to f n))
+  one_more n i before (inr q) = let long = length_up_to f n in get_or-append (up_to f n) (f n ∷ []) d i (omega arith) ∙ before q
 
-  pub get_or-up_to : (n i : ℕ) → i < n → get_or (up_to f n) i d ≡ f i
+  pub get_or_up_to : (n i : ℕ) → i < n → get_or (up_to f n) i d ≡ f i
   unfolding up_to
-  get_or-up_to zero i p = absurd (omega arith)
-  get_or-up_to (suc n) i p = one_more n i (get_or-up_to n i) (eq-or-lt_of_le {n = i} {m = n} (omega arith))
+  get_or_up_to zero i p = absurd (omega arith)
+  get_or_up_to (suc n) i p = one_more n i (get_or_up_to n i) (eq-or-lt_of_le {n = i} {m = n} (omega arith))
 
 module _ {A : Type 0} (f : ℕ → A) (l : List A) (d : A) where
-  up-take : (n : ℕ) → n ≤ length l → ((i : ℕ) → i < n → f i ≡ get_or l i d) → up_to f n ≡ take n l
+  up_take : (n : ℕ) → n ≤ length l → ((i : ℕ) → i < n → f i ≡ get_or l i d) → up_to f n ≡ take n l
   unfolding up_to
-  up-take zero p same = refl
-  up-take (suc n) p same =
-      ap (λ (t : List A). t ++ (f n ∷ [])) (up-take n (omega arith) (λ i q. same i (omega arith)))
+  up_take zero p same = refl
+  up_take (suc n) p same =
+      ap (λ (t : List A). t ++ (f n ∷ [])) (up_take n (omega arith) (λ i q. same i (omega arith)))
       ∙ (ap (λ (x : A). take n l ++ (x ∷ [])) (same n (omega arith)) ∙ sym (take-suc l n d (omega arith)))
 
   -- a list that is told element by element
-  pub up-all : (n : ℕ) → length l ≡ n → ((i : ℕ) → i < n → f i ≡ get_or l i d) → up_to f n ≡ l
-  up-all n len same = up-take n (omega arith) same ∙ (ap (λ (k : ℕ). take k l) (sym len) ∙ take-length l)
+  pub up_all : (n : ℕ) → length l ≡ n → ((i : ℕ) → i < n → f i ≡ get_or l i d) → up_to f n ≡ l
+  up_all n len same = up_take n (omega arith) same ∙ (ap (λ (k : ℕ). take k l) (sym len) ∙ take-length l)
 
 -- ---- the whole: as many posts, places and interrupts as the layout has
 pub record Whole (m : Mailbox) : Type 0 where
-  pub line-long : length m.line ≡ 8
-  pub places-long : length m.places ≡ 8
-  pub interrupts-long : length m.firmware.interrupts ≡ 64
+  pub line_long : length m.line ≡ 8
+  pub places_long : length m.places ≡ 8
+  pub interrupts_long : length m.firmware.interrupts ≡ 64
 
-pub unpacked-whole : (ws : List ℕ) → Whole (unpack_of ws)
+pub unpacked_whole : (ws : List ℕ) → Whole (unpack_of ws)
 unfolding unpack_of firmware_from
-unpacked-whole ws = record { line-long = length-up_to _ 8; places-long = length-up_to _ 8; interrupts-long = length-up_to _ 64 }
+unpacked_whole ws = record { line_long = length_up_to _ 8; places_long = length_up_to _ 8; interrupts_long = length_up_to _ 64 }
 
 get_or_past : {A : Type 0} (a b : List A) (d : A) (k i : ℕ) → length a ≡ k → k ≤ i → get_or (a ++ b) i d ≡ get_or b (i - k) d
 get_or_past a b d k i e p =
@@ -80,22 +80,22 @@ module _ (m : Mailbox) (w : Whole m) where
   abbrev kept : List ℕ
   kept = map interrupt_word m.firmware.interrupts
 
-  posts-long : length posts ≡ 8
-  posts-long = length-map m.line post_word ∙ w.line-long
+  posts_long : length posts ≡ 8
+  posts_long = length-map m.line post_word ∙ w.line_long
 
-  spots-long : length spots ≡ 8
-  spots-long = length-map m.places place_word ∙ w.places-long
+  spots_long : length spots ≡ 8
+  spots_long = length-map m.places place_word ∙ w.places_long
 
-  kept-long : length kept ≡ 64
-  kept-long = length-map m.firmware.interrupts interrupt_word ∙ w.interrupts-long
+  kept_long : length kept ≡ 64
+  kept_long = length-map m.firmware.interrupts interrupt_word ∙ w.interrupts_long
 
-  pub pack-long : length (pack_of m) ≡ 88
+  pub pack_long : length (pack_of m) ≡ 88
   unfolding pack_of
-  pack-long =
+  pack_long =
       let a = length-append head (posts ++ (spots ++ kept)) in
       let b = length-append posts (spots ++ kept) in
       let d = length-append spots kept in
-      long (length (head ++ (posts ++ (spots ++ kept)))) (length (posts ++ (spots ++ kept))) (length (spots ++ kept)) (length posts) (length spots) (length kept) a b d posts-long spots-long kept-long
+      long (length (head ++ (posts ++ (spots ++ kept)))) (length (posts ++ (spots ++ kept))) (length (spots ++ kept)) (length posts) (length spots) (length kept) a b d posts_long spots_long kept_long
     where
       long : (x y z p s k : ℕ) → x ≡ 8 + y → y ≡ p + z → z ≡ s + k → p ≡ 8 → s ≡ 8 → k ≡ 64 → x ≡ 88
       long x y z p s k a b d e f g = omega arith
@@ -106,32 +106,32 @@ module _ (m : Mailbox) (w : Whole m) where
     unfolding pack_of
     past_head a = get_or_past head (posts ++ (spots ++ kept)) 0 8 i refl a
 
-    past-line : 16 ≤ i → get_or (pack_of m) i 0 ≡ get_or (spots ++ kept) (i - 16) 0
-    past-line b =
+    past_line : 16 ≤ i → get_or (pack_of m) i 0 ≡ get_or (spots ++ kept) (i - 16) 0
+    past_line b =
         let e : i - 8 - 8 ≡ i - 16 = omega arith in
-        past_head (omega arith) ∙ (get_or_past posts (spots ++ kept) 0 8 (i - 8) posts-long (omega arith) ∙ ap (λ (j : ℕ). get_or (spots ++ kept) j 0) e)
+        past_head (omega arith) ∙ (get_or_past posts (spots ++ kept) 0 8 (i - 8) posts_long (omega arith) ∙ ap (λ (j : ℕ). get_or (spots ++ kept) j 0) e)
 
-    past-places : 24 ≤ i → get_or (pack_of m) i 0 ≡ get_or kept (i - 24) 0
-    past-places d =
+    past_places : 24 ≤ i → get_or (pack_of m) i 0 ≡ get_or kept (i - 24) 0
+    past_places d =
         let e : i - 16 - 8 ≡ i - 24 = omega arith in
-        past-line (omega arith) ∙ (get_or_past spots kept 0 8 (i - 16) spots-long (omega arith) ∙ ap (λ (j : ℕ). get_or kept j 0) e)
+        past_line (omega arith) ∙ (get_or_past spots kept 0 8 (i - 16) spots_long (omega arith) ∙ ap (λ (j : ℕ). get_or kept j 0) e)
 
-    pub pack-head : i < 8 → get_or (pack_of m) i 0 ≡ get_or (head_of m) i 0
+    pub pack_head : i < 8 → get_or (pack_of m) i 0 ≡ get_or (head_of m) i 0
     unfolding pack_of
-    pack-head a = get_or-append head (posts ++ (spots ++ kept)) 0 i (omega arith)
+    pack_head a = get_or-append head (posts ++ (spots ++ kept)) 0 i (omega arith)
 
-    pub pack-post : 8 ≤ i → i < 16 → get_or (pack_of m) i 0 ≡ post_word (get_or m.line (i - 8) no_post)
-    pack-post a b =
-        let long = posts-long in
+    pub pack_post : 8 ≤ i → i < 16 → get_or (pack_of m) i 0 ≡ post_word (get_or m.line (i - 8) no_post)
+    pack_post a b =
+        let long = posts_long in
         past_head a ∙ (get_or-append posts (spots ++ kept) 0 (i - 8) (omega arith) ∙ get_or-map post_word m.line (i - 8) no_post)
 
-    pub pack-place : 16 ≤ i → i < 24 → get_or (pack_of m) i 0 ≡ place_word (get_or m.places (i - 16) (place_with Free))
-    pack-place a b =
-        let long = spots-long in
-        past-line a ∙ (get_or-append spots kept 0 (i - 16) (omega arith) ∙ get_or-map place_word m.places (i - 16) (place_with Free))
+    pub pack_place : 16 ≤ i → i < 24 → get_or (pack_of m) i 0 ≡ place_word (get_or m.places (i - 16) (place_with Free))
+    pack_place a b =
+        let long = spots_long in
+        past_line a ∙ (get_or-append spots kept 0 (i - 16) (omega arith) ∙ get_or-map place_word m.places (i - 16) (place_with Free))
 
-    pub pack-interrupt : 24 ≤ i → get_or (pack_of m) i 0 ≡ interrupt_word (get_or m.firmware.interrupts (i - 24) nothing)
-    pack-interrupt a = past-places a ∙ get_or-map interrupt_word m.firmware.interrupts (i - 24) nothing
+    pub pack_interrupt : 24 ≤ i → get_or (pack_of m) i 0 ≡ interrupt_word (get_or m.firmware.interrupts (i - 24) nothing)
+    pack_interrupt a = past_places a ∙ get_or-map interrupt_word m.firmware.interrupts (i - 24) nothing
 
 -- ---- to words
 pub part_none : (p : Part) → p ≡ part.Absent → 0 ≡ part_word p
@@ -143,55 +143,55 @@ part_held p v e = rw e
 pub ruleset part-word-cases = (part_none, part_held)
 
 module _ (p : Place) where
-  pub place-free : p.state ≡ Free → 0 ≡ place_word p
-  place-free e = rw e
+  pub place_free : p.state ≡ Free → 0 ≡ place_word p
+  place_free e = rw e
 
-  pub place-waiting : p.state ≡ Waiting → 0x1_0000_0000 ≡ place_word p
-  place-waiting e = rw e
+  pub place_waiting : p.state ≡ Waiting → 0x1_0000_0000 ≡ place_word p
+  place_waiting e = rw e
 
-  pub place-ready : (w : ℕ) → p.state ≡ Ready w → 0x2_0000_0000 + w ≡ place_word p
-  place-ready w e = rw e
+  pub place_ready : (w : ℕ) → p.state ≡ Ready w → 0x2_0000_0000 + w ≡ place_word p
+  place_ready w e = rw e
 
-pub ruleset place-word-cases = (place-free, place-waiting, place-ready)
+pub ruleset place-word-cases = (place_free, place_waiting, place_ready)
 
 module _ (i : Interrupt) (on : ℕ) (q : on ≡ bit_of i.delivery) where
-  pub interrupt-none : i.descriptor ≡ descriptor.Absent → on * 2 ≡ interrupt_word i
-  interrupt-none e = rw (e, q)
+  pub interrupt_none : i.descriptor ≡ descriptor.Absent → on * 2 ≡ interrupt_word i
+  interrupt_none e = rw (e, q)
 
-  pub interrupt-saved : (one two three : ℕ) → i.descriptor ≡ descriptor.Saved one two three
+  pub interrupt_saved : (one two three : ℕ) → i.descriptor ≡ descriptor.Saved one two three
       → 1 + on * 2 + one * 0x1_0000 + two * 0x1_0000_0000 + three * 0x1_0000_0000_0000 ≡ interrupt_word i
-  interrupt-saved one two three e = rw (e, q)
+  interrupt_saved one two three e = rw (e, q)
 
-pub ruleset interrupt-word-cases = (interrupt-none, interrupt-saved)
+pub ruleset interrupt-word-cases = (interrupt_none, interrupt_saved)
 
 -- ---- from words
 module _ (k c w : ℕ) where
-  pub phase-idle : k ≡ 0 → Idle ≡ phase_from k c w
-  phase-idle e = rw e
+  pub phase_idle : k ≡ 0 → Idle ≡ phase_from k c w
+  phase_idle e = rw e
 
-  pub phase-command : k ≡ 1 → Command (c % 0x1_0000_0000) (w % 0x1_0000_0000) ≡ phase_from k c w
-  phase-command e = rw e
+  pub phase_command : k ≡ 1 → Command (c % 0x1_0000_0000) (w % 0x1_0000_0000) ≡ phase_from k c w
+  phase_command e = rw e
 
-  pub phase-response : (k ≡ 0 → ⊥) → (k ≡ 1 → ⊥) → Response (c % 0x1_0000_0000) (w % 0x1_0000_0000) ≡ phase_from k c w
-  phase-response a b = rw (ne_eqb _ _ a, ne_eqb _ _ b)
+  pub phase_response : (k ≡ 0 → ⊥) → (k ≡ 1 → ⊥) → Response (c % 0x1_0000_0000) (w % 0x1_0000_0000) ≡ phase_from k c w
+  phase_response a b = rw (ne_eqb _ _ a, ne_eqb _ _ b)
 
-pub ruleset phase-cases = (phase-idle, phase-command, phase-response)
+pub ruleset phase-cases = (phase_idle, phase_command, phase_response)
 
 module _ (w : ℕ) where
-  pub from-absent : w / 0x1_0000 ≡ 0 → part.Absent ≡ part_from w
-  from-absent e = rw e
+  pub from_absent : w / 0x1_0000 ≡ 0 → part.Absent ≡ part_from w
+  from_absent e = rw e
 
-  pub from-held : (w / 0x1_0000 ≡ 0 → ⊥) → part.Held (w % 0x1_0000) ≡ part_from w
-  from-held e = rw (ne_eqb _ _ e)
+  pub from_held : (w / 0x1_0000 ≡ 0 → ⊥) → part.Held (w % 0x1_0000) ≡ part_from w
+  from_held e = rw (ne_eqb _ _ e)
 
-  pub from-free : w / 0x1_0000_0000 ≡ 0 → place_with Free ≡ place_from w
-  from-free e = rw e
+  pub from_free : w / 0x1_0000_0000 ≡ 0 → place_with Free ≡ place_from w
+  from_free e = rw e
 
-  pub from-waiting : w / 0x1_0000_0000 ≡ 1 → place_with Waiting ≡ place_from w
-  from-waiting e = rw e
+  pub from_waiting : w / 0x1_0000_0000 ≡ 1 → place_with Waiting ≡ place_from w
+  from_waiting e = rw e
 
-  pub from-ready : (w / 0x1_0000_0000 ≡ 0 → ⊥) → (w / 0x1_0000_0000 ≡ 1 → ⊥) → place_with (Ready (w % 0x1_0000_0000)) ≡ place_from w
-  from-ready a b = rw (ne_eqb _ _ a, ne_eqb _ _ b)
+  pub from_ready : (w / 0x1_0000_0000 ≡ 0 → ⊥) → (w / 0x1_0000_0000 ≡ 1 → ⊥) → place_with (Ready (w % 0x1_0000_0000)) ≡ place_from w
+  from_ready a b = rw (ne_eqb _ _ a, ne_eqb _ _ b)
 
   abbrev nothing_with : Bool → Interrupt
   nothing_with on = record { descriptor = descriptor.Absent; delivery = on }
@@ -202,11 +202,11 @@ module _ (w : ℕ) where
   pub from_nothing : w % 2 ≡ 0 → nothing_with (eqb (w / 2 % 2) 1) ≡ interrupt_from w
   from_nothing e = rw e
 
-  pub from-saved : (w % 2 ≡ 0 → ⊥) → saved_with (eqb (w / 2 % 2) 1) ≡ interrupt_from w
-  from-saved e = rw (ne_eqb _ _ e)
+  pub from_saved : (w % 2 ≡ 0 → ⊥) → saved_with (eqb (w / 2 % 2) 1) ≡ interrupt_from w
+  from_saved e = rw (ne_eqb _ _ e)
 
-pub ruleset part-cases = (from-absent, from-held)
+pub ruleset part-cases = (from_absent, from_held)
 
-pub ruleset place-cases = (from-free, from-waiting, from-ready)
+pub ruleset place-cases = (from_free, from_waiting, from_ready)
 
-pub ruleset interrupt-cases = (from_nothing, from-saved)
+pub ruleset interrupt-cases = (from_nothing, from_saved)

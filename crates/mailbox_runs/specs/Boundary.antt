@@ -3,7 +3,7 @@ use Rattle.std.specs.Prelude.{cond, List, [], ◌∷◌, ◌++◌, ℕ, get_or, 
 use Rattle.reply.specs.Reply.{Reply, given, refused, alone}
 use Rattle.lent.specs.Lent.{words_for}
 use Rattle.mailbox_calls.specs.Calls.{after, accepted}
-use Rattle.mailbox_demand3.specs.Calls.{Call, post, load, turn, unload, take-word, Seen, posted, loaded, turned, unloaded, took, Server}
+use Rattle.mailbox_demand3.specs.Calls.{Call, post, load, turn, unload, take_word, Seen, posted, loaded, turned, unloaded, took, Server}
 use Rattle.mailbox_demand3.specs.Log.{Log, no_log, noted}
 use Rattle.mailbox_layout.specs.Layout.{words_of_mailbox, pack_of, unpack_of}
 use Rattle.mailbox_words.specs.Calls.{Left, fresh_words, post_on, load_on, turn_on, unload_on, take_on}
@@ -18,7 +18,7 @@ on_words words (post caller command d bits) values = post_on caller command d wo
 on_words words load values = load_on words values
 on_words words turn values = turn_on words values
 on_words words unload values = unload_on words values
-on_words words (take-word caller) values = take_on caller words values
+on_words words (take_word caller) values = take_on caller words values
 
 -- ---- what is seen: the call, its number, and where that is 0 the first of the value words
 abbrev pub read_as : {A : Type 0} → A → (number : ℕ) → Reply A
@@ -32,7 +32,7 @@ seen_on (post caller command d bits) number values = posted caller command d (re
 seen_on load number values = loaded (read_as (eqb (first_of values) 1) number)
 seen_on turn number values = turned (read_as (eqb (first_of values) 1) number)
 seen_on unload number values = unloaded (read_as (eqb (first_of values) 1) number)
-seen_on (take-word caller) number values = took caller (read_as (first_of values) number)
+seen_on (take_word caller) number values = took caller (read_as (first_of values) number)
 
 -- ---- a run
 pub record RunOn : Type 0 where

@@ -34,11 +34,11 @@ pub record Faithful (m : Mailbox) : Type 0 where
   pub long : length (pack_of m) ≡ words_of_mailbox
   -- what is packed is read back
   pub back : (behind : List ℕ) → unpack_of (pack_of m ++ behind) ≡ m
-  pub post-through : (caller command d : ℕ) → d < 0x1_0000 → Through lay_accepted (post_of m caller command d) (post_on caller command d) m
-  pub load-through : Through lay_acted (load_of m) load_on m
-  pub turn-through : Through lay_acted (turn_of m) turn_on m
-  pub unload-through : Through lay_acted (unload_of m) unload_on m
-  pub take-through : (caller : ℕ) → Through lay_word (take_of m caller) (take_on caller) m
+  pub post_through : (caller command d : ℕ) → d < 0x1_0000 → Through lay_accepted (post_of m caller command d) (post_on caller command d) m
+  pub load_through : Through lay_acted (load_of m) load_on m
+  pub turn_through : Through lay_acted (turn_of m) turn_on m
+  pub unload_through : Through lay_acted (unload_of m) unload_on m
+  pub take_through : (caller : ℕ) → Through lay_word (take_of m caller) (take_on caller) m
 
 pub record AllFaithful : Type 0 where
   pub fresh : Typed fresh_mailbox

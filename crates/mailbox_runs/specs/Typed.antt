@@ -30,7 +30,7 @@ pub record TypedFirmware (f : Firmware) : Type 0 where
   pub part1 : TypedPart f.part1
   pub part2 : TypedPart f.part2
   pub part3 : TypedPart f.part3
-  pub interrupts-long : length f.interrupts ≡ 64
+  pub interrupts_long : length f.interrupts ≡ 64
   pub interrupts : All TypedInterrupt f.interrupts
 
 abbrev pub TypedPost : (p : Post) → Type 0
@@ -51,8 +51,8 @@ TypedPhase (Response caller word) = (caller < 0x1_0000_0000) × (word < 0x1_0000
 
 pub record Typed (m : Mailbox) : Type 0 where
   pub register : TypedPhase m.register
-  pub line-long : length m.line ≡ 8
+  pub line_long : length m.line ≡ 8
   pub line : All TypedPost m.line
-  pub places-long : length m.places ≡ 8
+  pub places_long : length m.places ≡ 8
   pub places : All TypedPlace m.places
   pub firmware : TypedFirmware m.firmware

@@ -2,7 +2,7 @@
 use mathlib.Core.Path.{◌≡◌, refl}
 use mathlib.Core.Bool.{Bool, true, false}
 use Rattle.reply.specs.Reply.{Reply, given, refused, OneToOne}
-use Rattle.reply.proofs.ReplyLaws.{one-by}
+use Rattle.reply.proofs.ReplyLaws.{one_by}
 use Rattle.mailbox_calls.proofs.Settled.{beside}
 use Rattle.mailbox_steps.specs.declared.StepAnswer.{StepAnswer}
 use Rattle.mailbox_steps.specs.declared.StepAnswer.TheVariants as step-answer
@@ -19,11 +19,11 @@ step_back_lem step-answer.Yes = refl
 step_back_lem step-answer.No = refl
 step_back_lem (step-answer.Refused why) = refl
 
-one-step : OneToOne told_step
-one-step = one-by told_step step_back step_back_lem
+one_step : OneToOne told_step
+one_step = one_by told_step step_back step_back_lem
 
 pub settled : Settled
 settled = record {
-  step = one-step;
-  after-step = λ promised x y p q. let s = beside told_step one-step promised x.mailbox y.mailbox x.answer y.answer p q in λ i. record { mailbox = s.0 i; answer = s.1 i };
+  step = one_step;
+  after_step = λ promised x y p q. let s = beside told_step one_step promised x.mailbox y.mailbox x.answer y.answer p q in λ i. record { mailbox = s.0 i; answer = s.1 i };
 }

@@ -8,4 +8,4 @@ use Rattle.mailbox_steps.specs.Told.{told_step, told_after_step}
 pub record Settled : Type 0 where
   pub step : OneToOne told_step
   -- the same with the mailbox beside the answer
-  pub after-step : (promised : After (Reply Bool)) (x y : AfterStep) → told_after_step x ≡ promised → told_after_step y ≡ promised → x ≡ y
+  pub after_step : (promised : After (Reply Bool)) (x y : AfterStep) → told_after_step x ≡ promised → told_after_step y ≡ promised → x ≡ y

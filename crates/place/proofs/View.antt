@@ -8,15 +8,15 @@ use borrow.Author.Tests.{le-leb, lt-leb, leb-false}
 use lib.ListN.{length}
 use lib.Dec.{leb, eqb}
 use Rattle.reply.specs.Reply.{Reply, Carried, given, refused, alone, in_entry, guard, then, met}
-use Rattle.reply.proofs.ReplyLaws.{past, passed, failed, then-given, met-given}
+use Rattle.reply.proofs.ReplyLaws.{past, passed, failed, then_given, met_given}
 use Rattle.directory.specs.Directory.{directory_at, directory_by_cookie}
 use Rattle.entries.specs.Entry.{entry_in}
 use Rattle.entries.specs.Part.{leads_to, part_within, part_of, part_in, bytes_of, begin_of}
 use Rattle.directory.specs.declared.Directory.{Directory}
 use Rattle.entries.specs.declared.Entry.{Entry}
 use Rattle.entries.specs.declared.Part.{Part}
-use Rattle.directory.proofs.Accept.{only-good, cookie-acceptance}
-use Rattle.entries.proofs.Parts.{part-inside}
+use Rattle.directory.proofs.Accept.{only_good, cookie_acceptance}
+use Rattle.entries.proofs.Parts.{part_inside}
 use Rattle.efs.specs.Efs.{pointer_in}
 use Rattle.window.specs.Inside.{GoodLength}
 use Rattle.efs.specs.Rules.{rules_of}
@@ -24,54 +24,54 @@ use Rattle.efs.specs.declared.Rules.{Rules}
 use Rattle.flash.specs.Flash.{flash_directory, flash_part}
 use Rattle.window.specs.Window.{nearest_to, within}
 use Rattle.window.specs.Length.{longest, length_allowed}
-use Rattle.window.proofs.Length.{allowed-fact, sized-passed, sized_past}
-use Rattle.flash.proofs.Ways.{Opened, one, two, opened, led-given}
+use Rattle.window.proofs.Length.{allowed_fact, sized_passed, sized_past}
+use Rattle.flash.proofs.Ways.{Opened, one, two, opened, led_given}
 use Rattle.place.specs.Place.{check_at, entry_at, part_at, held_bytes, held_place, view_image, view_place, part_through}
 use Rattle.place.specs.View.{GoodPlace, PlaceAcceptance, NearestPlace, SameThroughView, ViewOfLevel, PartOfImage}
 
 module _ (r : Rules) (s : List ℕ) where
-  only-place : (place : ℕ) (d : Directory) → check_at r s place ≡ given d → GoodPlace r s place d
+  only_place : (place : ℕ) (d : Directory) → check_at r s place ≡ given d → GoodPlace r s place d
   unfolding check_at
-  only-place place d e =
+  only_place place d e =
       let z = sized_past s _ e in
       let g = past (leb place (length s)) _ _ _ z.1 in
-      let h = cookie-acceptance.only r.kind r.limit s place d g.1 in
+      let h = cookie_acceptance.only r.kind r.limit s place d g.1 in
       record { long = z.0; good = h.0; here = h.1 }
 
   -- where a directory is given, the image has a length that is allowed
-  pub checked-long : (place : ℕ) (d : Directory) → check_at r s place ≡ given d → GoodLength s
-  checked-long place d e = (only-place place d e).long
+  pub checked_long : (place : ℕ) (d : Directory) → check_at r s place ≡ given d → GoodLength s
+  checked_long place d e = (only_place place d e).long
 
-  all-place : (place : ℕ) (d : Directory) → (r.kind.one ≡ r.kind.two → ⊥) → GoodPlace r s place d → check_at r s place ≡ given d
+  all_place : (place : ℕ) (d : Directory) → (r.kind.one ≡ r.kind.two → ⊥) → GoodPlace r s place d → check_at r s place ≡ given d
   unfolding check_at
-  all-place place d apart g =
+  all_place place d apart g =
       let p = g.good.present in
       let h = g.here in
       let within : place ≤ length s = omega arith in
-      sized-passed s _ g.long
+      sized_passed s _ g.long
       ∙ (passed _ _ _ _ (le-leb _ _ within)
-      ∙ (ap (directory_by_cookie r.kind r.limit s) (sym h) ∙ cookie-acceptance.all r.kind r.limit s d apart g.good))
+      ∙ (ap (directory_by_cookie r.kind r.limit s) (sym h) ∙ cookie_acceptance.all r.kind r.limit s d apart g.good))
 
   -- a directory that a level leads to is good, at its own place
-  good-opened : (level : ℕ) (d : Directory) → flash_directory r level s ≡ given d → GoodPlace r s d.place.0 d
-  good-opened level d e = let w = opened r s d level e in by w.0 w.1
+  good_opened : (level : ℕ) (d : Directory) → flash_directory r level s ≡ given d → GoodPlace r s d.place.0 d
+  good_opened level d e = let w = opened r s d level e in by w.0 w.1
     where
       at : (l o : ℕ) → GoodLength s → directory_at r.kind r.limit l s o ≡ given d → GoodPlace r s d.place.0 d
-      at l o z e = record { long = z; good = (only-good r.kind r.limit l s o d e).0; here = refl }
+      at l o z e = record { long = z; good = (only_good r.kind r.limit l s o d e).0; here = refl }
 
       by : {level : ℕ} → GoodLength s → Opened r s d level → GoodPlace r s d.place.0 d
-      by z (one e) = let t = then-given (pointer_in r s) _ e in at 1 t.0.place.0 z t.2
-      by z (two above e h) = let t = led-given r s above d h in at 2 t.2.0 z t.4
+      by z (one e) = let t = then_given (pointer_in r s) _ e in at 1 t.0.place.0 z t.2
+      by z (two above e h) = let t = led_given r s above d h in at 2 t.2.0 z t.4
 
 -- what is asked of a directory next: its entry i, and where the bytes of that lie
 abbrev entry_next : (i : ℕ) → Rules → List ℕ → Directory → Reply Entry
 entry_next i r s d = entry_in r.kind s d i
 
-abbrev part-next : (i : ℕ) → Rules → List ℕ → Directory → Reply Part
-part-next i r s d = part_in r.kind r.window s d i
+abbrev part_next : (i : ℕ) → Rules → List ℕ → Directory → Reply Part
+part_next i r s d = part_in r.kind r.window s d i
 
-pub place-acceptance : PlaceAcceptance
-place-acceptance = record { only = only-place; all = all-place }
+pub place_acceptance : PlaceAcceptance
+place_acceptance = record { only = only_place; all = all_place }
 
 module _ (rules : List ℕ → Rules) (apart : (image : List ℕ) → (rules image).kind.one ≡ (rules image).kind.two → ⊥) (level : ℕ) (s : List ℕ) where
   -- the rules of the image, what the view holds, and the place that it keeps
@@ -81,106 +81,106 @@ module _ (rules : List ℕ → Rules) (apart : (image : List ℕ) → (rules ima
   abbrev held : List ℕ
   held = view_image r level s
 
-  abbrev at-kept : ℕ
-  at-kept = (view_place r level s).0
+  abbrev at_kept : ℕ
+  at_kept = (view_place r level s).0
 
   -- a directory of the level, asked for again at its place
   kept : (d : Directory) → flash_directory r level s ≡ given d → check_at r s d.place.0 ≡ given d
-  kept d e = all-place r s d.place.0 d (apart s) (good-opened r s level d e)
+  kept d e = all_place r s d.place.0 d (apart s) (good_opened r s level d e)
 
   -- the directory of a view that holds and keeps what such a reply leaves
-  abbrev checked-by : Reply Directory → Reply Directory
-  checked-by q = check_at (rules (held_bytes s q)) (held_bytes s q) (held_place q).0
+  abbrev checked_by : Reply Directory → Reply Directory
+  checked_by q = check_at (rules (held_bytes s q)) (held_bytes s q) (held_place q).0
 
-  same : (d : Directory) → flash_directory r level s ≡ given d → check_at (rules held) held at-kept ≡ given d
-  same d e = ap checked-by e ∙ kept d e
+  same : (d : Directory) → flash_directory r level s ≡ given d → check_at (rules held) held at_kept ≡ given d
+  same d e = ap checked_by e ∙ kept d e
 
   -- whatever is asked of it next
   same_next : {B : Type 0} (next : Rules → List ℕ → Directory → Reply B) (d : Directory) → flash_directory r level s ≡ given d →
-      then (check_at (rules held) held at-kept) (next (rules held) held) ≡ then (flash_directory r level s) (next r s)
+      then (check_at (rules held) held at_kept) (next (rules held) held) ≡ then (flash_directory r level s) (next r s)
   same_next next d e =
-      ap (λ (q : Reply Directory). then (checked-by q) (next (rules (held_bytes s q)) (held_bytes s q))) e
+      ap (λ (q : Reply Directory). then (checked_by q) (next (rules (held_bytes s q)) (held_bytes s q))) e
       ∙ ap (λ (x : Reply Directory). then x (next r s)) (kept d e)
       ∙ sym (ap (λ (q : Reply Directory). then q (next r s)) e)
 
-  none-15 : (number : ℕ) (carried : Carried) → flash_directory r level s ≡ refused number carried → check_at (rules held) held at-kept ≡ refused 15 alone
+  none_15 : (number : ℕ) (carried : Carried) → flash_directory r level s ≡ refused number carried → check_at (rules held) held at_kept ≡ refused 15 alone
   unfolding check_at
-  none-15 number carried e = rw e
+  none_15 number carried e = rw e
 
-  next-15 : {B : Type 0} (next : Rules → List ℕ → Directory → Reply B) (number : ℕ) (carried : Carried) → flash_directory r level s ≡ refused number carried →
-      then (check_at (rules held) held at-kept) (next (rules held) held) ≡ refused 15 alone
-  next-15 next number carried e = ap (λ (x : Reply Directory). then x (next (rules held) held)) (none-15 number carried e)
+  next_15 : {B : Type 0} (next : Rules → List ℕ → Directory → Reply B) (number : ℕ) (carried : Carried) → flash_directory r level s ≡ refused number carried →
+      then (check_at (rules held) held at_kept) (next (rules held) held) ≡ refused 15 alone
+  next_15 next number carried e = ap (λ (x : Reply Directory). then x (next (rules held) held)) (none_15 number carried e)
 
   -- of an entry's bytes nothing is left where they are refused, by the one number or the other
   module _ (i : ℕ) where
     same_bytes : (q : Reply Directory) → flash_directory r level s ≡ q → bytes_of held (part_through rules level s i) ≡ bytes_of s (flash_part r level s i)
     unfolding check_at
-    same_bytes (given d) e = ap (λ (x : Reply Part). bytes_of held x) (same_next (part-next i) d e) ∙ rw e
+    same_bytes (given d) e = ap (λ (x : Reply Part). bytes_of held x) (same_next (part_next i) d e) ∙ rw e
     same_bytes (refused number carried) e = rw e
 
-    same-begin : (at : ℕ × ℕ) (q : Reply Directory) → flash_directory r level s ≡ q → begin_of at (part_through rules level s i) ≡ begin_of at (flash_part r level s i)
+    same_begin : (at : ℕ × ℕ) (q : Reply Directory) → flash_directory r level s ≡ q → begin_of at (part_through rules level s i) ≡ begin_of at (flash_part r level s i)
     unfolding check_at
-    same-begin at (given d) e = ap (begin_of at) (same_next (part-next i) d e)
-    same-begin at (refused number carried) e = rw e
+    same_begin at (given d) e = ap (begin_of at) (same_next (part_next i) d e)
+    same_begin at (refused number carried) e = rw e
 
-through-view : (rules : List ℕ → Rules) → ((image : List ℕ) → (rules image).kind.one ≡ (rules image).kind.two → ⊥) → SameThroughView rules
-through-view rules apart = record {
+through_view : (rules : List ℕ → Rules) → ((image : List ℕ) → (rules image).kind.one ≡ (rules image).kind.two → ⊥) → SameThroughView rules
+through_view rules apart = record {
   directory = same rules apart;
   entry = λ level s d i. same_next rules apart level s (entry_next i) d;
-  part = λ level s d i. same_next rules apart level s (part-next i) d;
+  part = λ level s d i. same_next rules apart level s (part_next i) d;
   bytes = λ level s i. same_bytes rules apart level s i (flash_directory (rules s) level s) refl;
-  begin = λ level s i at. same-begin rules apart level s i at (flash_directory (rules s) level s) refl;
+  begin = λ level s i at. same_begin rules apart level s i at (flash_directory (rules s) level s) refl;
   none = λ level s number carried e. (ap (held_bytes s) e, ap (λ (x : Reply Directory). (held_place x).0) e);
-  directory-15 = none-15 rules apart;
-  entry-15 = λ level s i. next-15 rules apart level s (entry_next i);
-  part-15 = λ level s i. next-15 rules apart level s (part-next i);
+  directory_15 = none_15 rules apart;
+  entry_15 = λ level s i. next_15 rules apart level s (entry_next i);
+  part_15 = λ level s i. next_15 rules apart level s (part_next i);
 }
 
-pub view-of-level : ViewOfLevel
-view-of-level = record { every = through-view; document = through-view rules_of (λ image e. omega arith) }
+pub view_of_level : ViewOfLevel
+view_of_level = record { every = through_view; document = through_view rules_of (λ image e. omega arith) }
 
 -- what comes after the length
 abbrev checked_at : Rules → (s : List ℕ) → (place : ℕ) → Reply Directory
 checked_at r s place = within s place (directory_by_cookie r.kind r.limit s place)
 
 -- the offset nearest to a place that no offset can tell lies beyond the image, as the place does
-nearest-check : (r : Rules) (s : List ℕ) (place : ℕ) → check_at r s (nearest_to place).0 ≡ check_at r s place
+nearest_check : (r : Rules) (s : List ℕ) (place : ℕ) → check_at r s (nearest_to place).0 ≡ check_at r s place
 unfolding check_at
-nearest-check r s place = by (leb place 0xFFFF_FFFF) refl (length_allowed s) refl
+nearest_check r s place = by (leb place 0xFFFF_FFFF) refl (length_allowed s) refl
   where
     by : (b : Bool) → leb place 0xFFFF_FFFF ≡ b → (l : Bool) → length_allowed s ≡ l → guard l 15 (checked_at r s (cond b place 0xFFFF_FFFF)) ≡ guard l 15 (checked_at r s place)
     by true q l k = refl
     by false q false k = refl
     by false q true k =
         let far : 0xFFFF_FFFF < place = leb-false _ _ q in
-        let long : length s ≤ longest = (allowed-fact s k).to in
+        let long : length s ≤ longest = (allowed_fact s k).to in
         failed _ _ _ _ (lt-leb 0xFFFF_FFFF (length s) (omega arith)) ∙ sym (failed _ _ _ _ (lt-leb place (length s) (omega arith)))
 
-pub nearest-place : NearestPlace
-nearest-place = record {
-  check = nearest-check;
-  entry = λ r s place i. ap (λ (x : Reply Directory). then x (λ d. entry_in r.kind s d i)) (nearest-check r s place);
-  part = λ r s place i. ap (λ (x : Reply Directory). then x (λ d. part_in r.kind r.window s d i)) (nearest-check r s place);
+pub nearest_place : NearestPlace
+nearest_place = record {
+  check = nearest_check;
+  entry = λ r s place i. ap (λ (x : Reply Directory). then x (λ d. entry_in r.kind s d i)) (nearest_check r s place);
+  part = λ r s place i. ap (λ (x : Reply Directory). then x (λ d. part_in r.kind r.window s d i)) (nearest_check r s place);
 }
 
 module _ (r : Rules) (s : List ℕ) (place i : ℕ) where
   inside : (p : Part) → part_at r s place i ≡ given p → p.place.0 + p.length ≤ length s
-  inside p e = let t = then-given (check_at r s place) _ e in part-inside r.kind r.window s t.0 i p t.2
+  inside p e = let t = then_given (check_at r s place) _ e in part_inside r.kind r.window s t.0 i p t.2
 
   size : (e : Entry) (p : Part) → entry_at r s place i ≡ given e → part_at r s place i ≡ given p → p.length ≡ e.size
   unfolding part_of part_within
   size e p a b =
-      let t = then-given (check_at r s place) _ a in
+      let t = then_given (check_at r s place) _ a in
       let d = t.0 in
       let h : part_in r.kind r.window s d i ≡ given p = ap (λ (x : Reply Directory). then x (λ d. part_in r.kind r.window s d i)) (sym t.1) ∙ b in
       let g = ap (λ (x : Reply Entry). then x (λ e. met (in_entry d.level i d.place.0) (part_of r.kind r.window s d.place.0 e))) (sym t.2) ∙ h in
-      let v = past (not (eqb e.class r.kind.value)) _ _ _ (met-given _ (part_of r.kind r.window s d.place.0 e) g) in
-      let u = then-given (leads_to r.window s d.place.0 e) (part_within s e.size) v.1 in
+      let v = past (not (eqb e.class r.kind.value)) _ _ _ (met_given _ (part_of r.kind r.window s d.place.0 e) g) in
+      let u = then_given (leads_to r.window s d.place.0 e) (part_within s e.size) v.1 in
       let w = past (leb (u.0.0 + e.size) (length s)) _ _ _ u.2 in
       cc w.1
 
-pub part-of-image : PartOfImage
-part-of-image = record {
+pub part_of_image : PartOfImage
+part_of_image = record {
   inside = inside;
   size = size;
   bytes = λ r s place i p e. ap (bytes_of s) e;

@@ -42,9 +42,9 @@ pub record SameThroughView (rules : List ℕ → Rules) : Type 0 where
   -- where the directory is refused, with whatever number, the view holds no bytes and place 0, and each call on it answers 15
   pub none : (level : ℕ) (image : List ℕ) (number : ℕ) (carried : Carried) → flash_directory (rules image) level image ≡ refused number carried →
       (view_image (rules image) level image ≡ []) × ((view_place (rules image) level image).0 ≡ 0)
-  pub directory-15 : (level : ℕ) (image : List ℕ) (number : ℕ) (carried : Carried) → flash_directory (rules image) level image ≡ refused number carried → check_through rules level image ≡ refused 15 alone
-  pub entry-15 : (level : ℕ) (image : List ℕ) (i number : ℕ) (carried : Carried) → flash_directory (rules image) level image ≡ refused number carried → entry_through rules level image i ≡ refused 15 alone
-  pub part-15 : (level : ℕ) (image : List ℕ) (i number : ℕ) (carried : Carried) → flash_directory (rules image) level image ≡ refused number carried → part_through rules level image i ≡ refused 15 alone
+  pub directory_15 : (level : ℕ) (image : List ℕ) (number : ℕ) (carried : Carried) → flash_directory (rules image) level image ≡ refused number carried → check_through rules level image ≡ refused 15 alone
+  pub entry_15 : (level : ℕ) (image : List ℕ) (i number : ℕ) (carried : Carried) → flash_directory (rules image) level image ≡ refused number carried → entry_through rules level image i ≡ refused 15 alone
+  pub part_15 : (level : ℕ) (image : List ℕ) (i number : ℕ) (carried : Carried) → flash_directory (rules image) level image ≡ refused number carried → part_through rules level image i ≡ refused 15 alone
 
 -- so it is by all rules of kinds whose cookies differ, and by those of every image
 pub record ViewOfLevel : Type 0 where

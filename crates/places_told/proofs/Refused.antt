@@ -25,23 +25,23 @@ branched true x y e f g = f refl e
 branched false x y e f g = g refl e
 
 -- the first step is refused, or the second by what the first gives
-pub then-stopped : {A B C : Type 0} {n : ℕ} {c : Carried} (r : Reply A) (next : A → Reply B) → then r next ≡ refused n c →
+pub then_stopped : {A B C : Type 0} {n : ℕ} {c : Carried} (r : Reply A) (next : A → Reply B) → then r next ≡ refused n c →
     (r ≡ refused n c → C) → ((a : A) → r ≡ given a → next a ≡ refused n c → C) → C
-then-stopped (given a) next e f g = g a refl e
-then-stopped (refused number carried) next e f g = f (refusal e)
+then_stopped (given a) next e f g = g a refl e
+then_stopped (refused number carried) next e f g = f (refusal e)
 
 -- what was met here
-pub met-stopped : {A C : Type 0} {n : ℕ} {c : Carried} (here : Carried) (r : Reply A) → met here r ≡ refused n c → ((w : Carried) → r ≡ refused n w → here ≡ c → C) → C
-met-stopped here (given a) e f = clash (sym e)
-met-stopped {n = n} here (refused number carried) e f = let a : number ≡ n = cc e in f carried (λ i. refused (a i) carried) (cc e)
+pub met_stopped : {A C : Type 0} {n : ℕ} {c : Carried} (here : Carried) (r : Reply A) → met here r ≡ refused n c → ((w : Carried) → r ≡ refused n w → here ≡ c → C) → C
+met_stopped here (given a) e f = clash (sym e)
+met_stopped {n = n} here (refused number carried) e f = let a : number ≡ n = cc e in f carried (λ i. refused (a i) carried) (cc e)
 
 -- ---- tests
 -- a test that fails denies its fact, and back
-pub denied-le : (a b : ℕ) → leb a b ≡ false → a ≤ b → ⊥
-denied-le a b f h = apart (le-leb a b h) f
+pub denied_le : (a b : ℕ) → leb a b ≡ false → a ≤ b → ⊥
+denied_le a b f h = apart (le-leb a b h) f
 
-pub le-denied : (a b : ℕ) → (a ≤ b → ⊥) → leb a b ≡ false
-le-denied a b n = lt-leb a b (omega arith)
+pub le_denied : (a b : ℕ) → (a ≤ b → ⊥) → leb a b ≡ false
+le_denied a b n = lt-leb a b (omega arith)
 
 pub untrue : (b : Bool) → (b ≡ true → ⊥) → b ≡ false
 untrue true n = absurd (n refl)

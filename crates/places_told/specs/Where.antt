@@ -42,11 +42,11 @@ pub record GoodHeader (kind : Kind) (limit level : ℕ) (image : List ℕ) (o : 
 
 -- one does not, and all before it do: its number
 pub data HeaderFault (kind : Kind) (limit level : ℕ) (image : List ℕ) (o : ℕ) : (number : ℕ) → Type 0 where
-  header-cut : (HeaderThere image o → ⊥) → HeaderFault kind limit level image o 1
-  other-cookie : HeaderThere image o → (CookieDue kind level image o → ⊥) → HeaderFault kind limit level image o 2
+  header_cut : (HeaderThere image o → ⊥) → HeaderFault kind limit level image o 1
+  other_cookie : HeaderThere image o → (CookieDue kind level image o → ⊥) → HeaderFault kind limit level image o 2
   too_many : HeaderThere image o → CookieDue kind level image o → (TotalAllowed limit image o → ⊥) → HeaderFault kind limit level image o 3
-  entries-cut : HeaderThere image o → CookieDue kind level image o → TotalAllowed limit image o → (EntriesThere kind image o → ⊥) → HeaderFault kind limit level image o 1
-  other-sum : HeaderThere image o → CookieDue kind level image o → TotalAllowed limit image o → EntriesThere kind image o → (ChecksumRight kind image o → ⊥) → HeaderFault kind limit level image o 4
+  entries_cut : HeaderThere image o → CookieDue kind level image o → TotalAllowed limit image o → (EntriesThere kind image o → ⊥) → HeaderFault kind limit level image o 1
+  other_sum : HeaderThere image o → CookieDue kind level image o → TotalAllowed limit image o → EntriesThere kind image o → (ChecksumRight kind image o → ⊥) → HeaderFault kind limit level image o 4
   word_set : HeaderThere image o → CookieDue kind level image o → TotalAllowed limit image o → EntriesThere kind image o → ChecksumRight kind image o → (WordZero image o → ⊥) →
       HeaderFault kind limit level image o 5
 
@@ -58,33 +58,33 @@ abbrev pub MayStand : Kind → (level : ℕ) → (image : List ℕ) → (o i : �
 MayStand kind level image o i = (level ≡ 1 → ⊥) → class_at kind image o i ≡ kind.lead → ⊥
 
 pub data EntryFault (kind : Kind) (level : ℕ) (image : List ℕ) (o i : ℕ) : (number : ℕ) → Type 0 where
-  flags-set : (FlagsZero kind image o i → ⊥) → EntryFault kind level image o i 5
+  flags_set : (FlagsZero kind image o i → ⊥) → EntryFault kind level image o i 5
   misplaced : FlagsZero kind image o i → (MayStand kind level image o i → ⊥) → EntryFault kind level image o i 14
   repeats : FlagsZero kind image o i → MayStand kind level image o i → (First kind image o i → ⊥) → EntryFault kind level image o i 18
 
 -- ---- a directory of a level at o: what is wrong in its header, or, where that is good, in the first of its entries in which anything is
 pub data CheckFault (kind : Kind) (limit level : ℕ) (image : List ℕ) (o number : ℕ) : Carried → Type 0 where
-  in-its-header : HeaderFault kind limit level image o number → CheckFault kind limit level image o number (in_header level o)
-  in-its-entry : (i : ℕ) → GoodHeader kind limit level image o → i < total_at image o → ((h : ℕ) → h < i → GoodEntry kind level image o h × First kind image o h) →
+  in_its_header : HeaderFault kind limit level image o number → CheckFault kind limit level image o number (in_header level o)
+  in_its_entry : (i : ℕ) → GoodHeader kind limit level image o → i < total_at image o → ((h : ℕ) → h < i → GoodEntry kind level image o h × First kind image o h) →
       EntryFault kind level image o i number → CheckFault kind limit level image o number (in_entry level i o)
 
 -- the same of the level that its cookie names; where none does, level 0
 pub data CookieFault (kind : Kind) (limit : ℕ) (image : List ℕ) (o number : ℕ) : Carried → Type 0 where
   cut : (HeaderThere image o → ⊥) → number ≡ 1 → CookieFault kind limit image o number (in_header 0 o)
-  no-cookie : HeaderThere image o → (get header.cookie image o ≡ kind.one → ⊥) → (get header.cookie image o ≡ kind.two → ⊥) → number ≡ 2 → CookieFault kind limit image o number (in_header 0 o)
-  of-level : {carried : Carried} (level : ℕ) → (level ≡ 1) ⊎ (level ≡ 2) → HeaderThere image o → CookieDue kind level image o → CheckFault kind limit level image o number carried →
+  no_cookie : HeaderThere image o → (get header.cookie image o ≡ kind.one → ⊥) → (get header.cookie image o ≡ kind.two → ⊥) → number ≡ 2 → CookieFault kind limit image o number (in_header 0 o)
+  of_level : {carried : Carried} (level : ℕ) → (level ≡ 1) ⊎ (level ≡ 2) → HeaderThere image o → CookieDue kind level image o → CheckFault kind limit level image o number carried →
       CookieFault kind limit image o number carried
 
 -- ---- the location of entry i of a directory
 -- it should lead to a place in the image, and does not
 pub data LeadFault (kind : Kind) (window : ℕ) (image : List ℕ) (d : Directory) (i : ℕ) : (number : ℕ) → Type 0 where
-  lead-mode : (entry_of kind image d i).mode ≡ 3 → LeadFault kind window image d i 16
-  leads-outside : ((entry_of kind image d i).mode ≡ 3 → ⊥) → ((place : ℕ) → BeginsAt window d.place.0 (entry_of kind image d i) place → place ≤ length image → ⊥) →
+  lead_mode : (entry_of kind image d i).mode ≡ 3 → LeadFault kind window image d i 16
+  leads_outside : ((entry_of kind image d i).mode ≡ 3 → ⊥) → ((place : ℕ) → BeginsAt window d.place.0 (entry_of kind image d i) place → place ≤ length image → ⊥) →
       LeadFault kind window image d i 7
 
 -- its bytes should lie in the image, and do not
 pub data PartFault (kind : Kind) (window : ℕ) (image : List ℕ) (d : Directory) (i : ℕ) : (number : ℕ) → Type 0 where
   value : (entry_of kind image d i).class ≡ kind.value → PartFault kind window image d i 17
-  part-mode : ((entry_of kind image d i).class ≡ kind.value → ⊥) → (entry_of kind image d i).mode ≡ 3 → PartFault kind window image d i 16
-  part-outside : ((entry_of kind image d i).class ≡ kind.value → ⊥) → ((entry_of kind image d i).mode ≡ 3 → ⊥) →
+  part_mode : ((entry_of kind image d i).class ≡ kind.value → ⊥) → (entry_of kind image d i).mode ≡ 3 → PartFault kind window image d i 16
+  part_outside : ((entry_of kind image d i).class ≡ kind.value → ⊥) → ((entry_of kind image d i).mode ≡ 3 → ⊥) →
       ((place : ℕ) → BeginsAt window d.place.0 (entry_of kind image d i) place → place + (entry_of kind image d i).size ≤ length image → ⊥) → PartFault kind window image d i 7

@@ -43,13 +43,13 @@ pub record CallsAnswered (r : Rules) (image : List ℕ) : Type 0 where
   pub part : (level i : ℕ) → Answers r image (flash_part r level image i)
   pub repeats : (level : ℕ) → Answers r image (flash_repeats r level image)
   pub lookup : (level class sub : ℕ) → Answers r image (flash_find r level image class sub)
-  pub image-lookup : (class sub : ℕ) → Answers r image (find_image r image class sub)
+  pub image_lookup : (class sub : ℕ) → Answers r image (find_image r image class sub)
   pub directories : Answers r image (flash_directories r image)
   pub at_place : (place : ℕ) → Answers r image (check_at r image place)
-  pub entry-at : (place i : ℕ) → Answers r image (entry_at r image place i)
-  pub part-at : (place i : ℕ) → Answers r image (part_at r image place i)
+  pub entry_at_lem : (place i : ℕ) → Answers r image (entry_at r image place i)
+  pub part_at_lem : (place i : ℕ) → Answers r image (part_at r image place i)
   pub version : (level i : ℕ) → Answers r image (version_in image (flash_part r level image i))
-  pub version-at : (place i : ℕ) → Answers r image (version_in image (part_at r image place i))
+  pub version_at : (place i : ℕ) → Answers r image (version_in image (part_at r image place i))
 
 -- ---- all of it, in every image of a length that is allowed
 pub record PlacesAnswered : Type 0 where

@@ -5,7 +5,7 @@ use Prim.Native.Nat.{ℕ}
 use native.Mathlib.Omega.{arith}
 use Rattle.reply.specs.Scan.{scan, Lowest, None}
 use Rattle.reply.proofs.ReplyLaws.{apart}
-use Rattle.reply.proofs.ScanLaws.{First, hit, miss, first, scan-hit, scan-miss}
+use Rattle.reply.proofs.ScanLaws.{First, hit, miss, first, scan_hit, scan_miss}
 
 -- how a search for the lowest index below n of which P holds ends
 pub data Searched {A : Type 0} (P : ℕ → Type 0) (found last : ℕ → A) (n : ℕ) (answer : A) : Type 0 where
@@ -18,26 +18,26 @@ pub record Decided (P : ℕ → Type 0) : Type 0 where
   pub says : (i : ℕ) → P i → test i ≡ true
   pub holds : (i : ℕ) → test i ≡ true → P i
 
-module _ {A : Type 0} (P : ℕ → Type 0) (by-test : Decided P) (found last : ℕ → A) (n : ℕ) where
-  fails : (i : ℕ) → by-test.test i ≡ false → P i → ⊥
-  fails i f p = apart (by-test.says i p) f
+module _ {A : Type 0} (P : ℕ → Type 0) (by_test : Decided P) (found last : ℕ → A) (n : ℕ) where
+  fails : (i : ℕ) → by_test.test i ≡ false → P i → ⊥
+  fails i f p = apart (by_test.says i p) f
 
-  fails-test : (i : ℕ) → (P i → ⊥) → by-test.test i ≡ false
-  fails-test i f = by (by-test.test i) refl
+  fails_test : (i : ℕ) → (P i → ⊥) → by_test.test i ≡ false
+  fails_test i f = by (by_test.test i) refl
     where
-      by : (b : Bool) → by-test.test i ≡ b → b ≡ false
-      by true q = absurd (f (by-test.holds i q))
+      by : (b : Bool) → by_test.test i ≡ b → b ≡ false
+      by true q = absurd (f (by_test.holds i q))
       by false q = refl
 
-  pub lowest-found : (i : ℕ) → Lowest P n i → scan (λ i rest. cond (by-test.test i) (found i) rest) last n 0 ≡ found i
-  lowest-found i l = scan-hit by-test.test found last n 0 i (omega arith) (let b = l.inside in omega arith) (by-test.says i l.here) (λ j a b. fails-test j (l.earlier j b))
+  pub lowest_found : (i : ℕ) → Lowest P n i → scan (λ i rest. cond (by_test.test i) (found i) rest) last n 0 ≡ found i
+  lowest_found i l = scan_hit by_test.test found last n 0 i (omega arith) (let b = l.inside in omega arith) (by_test.says i l.here) (λ j a b. fails_test j (l.earlier j b))
 
-  pub none_found : None P n → scan (λ i rest. cond (by-test.test i) (found i) rest) last n 0 ≡ last n
-  none_found f = scan-miss by-test.test found last n 0 n (omega arith) (λ j a b. fails-test j (f j b))
+  pub none_found : None P n → scan (λ i rest. cond (by_test.test i) (found i) rest) last n 0 ≡ last n
+  none_found f = scan_miss by_test.test found last n 0 n (omega arith) (λ j a b. fails_test j (f j b))
 
-  pub searched : Searched P found last n (scan (λ i rest. cond (by-test.test i) (found i) rest) last n 0)
-  searched = by (first by-test.test n 0 n (omega arith))
+  pub searched : Searched P found last n (scan (λ i rest. cond (by_test.test i) (found i) rest) last n 0)
+  searched = by (first by_test.test n 0 n (omega arith))
     where
-      by : First by-test.test 0 n → Searched P found last n (scan (λ i rest. cond (by-test.test i) (found i) rest) last n 0)
-      by (hit i a b t f) = let l : Lowest P n i = record { inside = b; here = by-test.holds i t; earlier = λ j x. fails j (f j (omega arith) x) } in lowest i l (lowest-found i l)
+      by : First by_test.test 0 n → Searched P found last n (scan (λ i rest. cond (by_test.test i) (found i) rest) last n 0)
+      by (hit i a b t f) = let l : Lowest P n i = record { inside = b; here = by_test.holds i t; earlier = λ j x. fails j (f j (omega arith) x) } in lowest i l (lowest_found i l)
       by (miss f) = let e : None P n = λ j x. fails j (f j (omega arith) x) in none e (none_found e)

@@ -37,18 +37,18 @@ past true number carried rest e = (refl, e)
 past false number carried rest e = clash e
 
 -- both steps of a reply that gives give
-pub then-given : {A : Type 0} {B : Type 0} {b : B} (r : Reply A) (next : A → Reply B) → then r next ≡ given b → (a : A) × (r ≡ given a) × (next a ≡ given b)
-then-given (given a) next e = (a, refl, e)
-then-given (refused number carried) next e = clash e
+pub then_given : {A : Type 0} {B : Type 0} {b : B} (r : Reply A) (next : A → Reply B) → then r next ≡ given b → (a : A) × (r ≡ given a) × (next a ≡ given b)
+then_given (given a) next e = (a, refl, e)
+then_given (refused number carried) next e = clash e
 
 -- a refusal is passed on as it is, with what its number carries
 pub passed_on : {A : Type 0} {B : Type 0} (number : ℕ) (carried : Carried) (next : A → Reply B) → then (refused number carried) next ≡ refused number carried
 passed_on number carried next = refl
 
 -- a callee's answer q, taken apart by `match`, and the step after it: what the caller's definition has
-pub then-told : {E : Type 0} {A : Type 0} {B : Type 0} (told : E → Reply A) (next : A → Reply B) {r : E} {q : E} {d : Reply A} →
+pub then_told : {E : Type 0} {A : Type 0} {B : Type 0} (told : E → Reply A) (next : A → Reply B) {r : E} {q : E} {d : Reply A} →
     r ≡ q → told r ≡ d → then (told q) next ≡ then d next
-then-told told next e h = ap (λ x. then x next) (ap told (sym e) ∙ h)
+then_told told next e h = ap (λ x. then x next) (ap told (sym e) ∙ h)
 
 -- what is one-to-one leaves one result
 pub settled : {E : Type 0} {A : Type 0} (told : E → Reply A) → OneToOne told → Settled told
@@ -60,24 +60,24 @@ then_same (given a) f g h = h a refl
 then_same (refused number carried) f g h = refl
 
 -- what has a way back is one-to-one
-pub one-by : {E : Type 0} {A : Type 0} (told : E → Reply A) (back : Reply A → E) → ((x : E) → back (told x) ≡ x) → OneToOne told
-one-by told back h x y e = sym (h x) ∙ ap back e ∙ h y
+pub one_by : {E : Type 0} {A : Type 0} (told : E → Reply A) (back : Reply A → E) → ((x : E) → back (told x) ≡ x) → OneToOne told
+one_by told back h x y e = sym (h x) ∙ ap back e ∙ h y
 
 -- what comes after a check matters only where it is passed
-pub check-same : {A : Type 0} (b : Bool) (number : ℕ) (carried : Carried) (r q : Reply A) → (b ≡ true → r ≡ q) → check b number carried r ≡ check b number carried q
-check-same true number carried r q h = h refl
-check-same false number carried r q h = refl
+pub check_same : {A : Type 0} (b : Bool) (number : ℕ) (carried : Carried) (r q : Reply A) → (b ≡ true → r ≡ q) → check b number carried r ≡ check b number carried q
+check_same true number carried r q h = h refl
+check_same false number carried r q h = refl
 
 -- a fault from what it tells, and the way back
-pub met-back : (m : Met) → met_by (carried_of m) ≡ m
-met-back place.Alone = refl
-met-back (place.Header level directory) = refl
-met-back (place.Entry level index directory) = refl
+pub met_back : (m : Met) → met_by (carried_of m) ≡ m
+met_back place.Alone = refl
+met_back (place.Header level directory) = refl
+met_back (place.Entry level index directory) = refl
 
-pub fault-back : (why : Fault) → fault_by why.number (carried_of why.met) ≡ why
-fault-back why = ap {A = Met} {B = Fault} (λ m. record { number = why.number; met = m }) (met-back why.met)
+pub fault_back : (why : Fault) → fault_by why.number (carried_of why.met) ≡ why
+fault_back why = ap {A = Met} {B = Fault} (λ m. record { number = why.number; met = m }) (met_back why.met)
 
 -- where a refusal was met matters to no reply that gives
-pub met-given : {A : Type 0} {a : A} (here : Carried) (r : Reply A) → met here r ≡ given a → r ≡ given a
-met-given here (given a) e = e
-met-given here (refused number carried) e = clash e
+pub met_given : {A : Type 0} {a : A} (here : Carried) (r : Reply A) → met here r ≡ given a → r ≡ given a
+met_given here (given a) e = e
+met_given here (refused number carried) e = clash e

@@ -42,20 +42,20 @@ pub record Orders : Type 0 where
   pub limit : RightPlaces (λ s. directory_at psp_kind 1 2 s 0) limit_rows
   pub flash : RightPlaces (λ a. flash_directory (at_the_start a.1) a.0 a.1) flash_rows
   pub find : Answered (λ a. flash_find (at_the_start a.1) a.0 a.1 a.2 0) find_rows
-  pub find-image : Answered (λ a. find_image (at_the_start a.0) a.0 a.1 a.2) find_image_rows
+  pub find_image_lem : Answered (λ a. find_image (at_the_start a.0) a.0 a.1 a.2) find_image_rows
   pub part : RightPlaces (λ a. part_in psp_kind (length (twice a.1)) (twice a.1) (directory_of 0 1 1) a.0) part_rows
   pub place : RightPlaces (λ a. check_at (at_the_start a.0) a.0 a.1) place_rows
   pub start : RightPlaces (λ a. start_of a.0 a.1) start_rows
   pub extend : RightPlaces (λ a. extend_of a.0 a.1) extend_rows
   pub room : RightPlaces (λ a. room_for a.0 (zeros a.1) (directory_of 0 2 a.2)) room_rows
-  pub aspt-read : Right (λ s. number_of (read_of s)) read_rows
-  pub aspt-write : Right (λ a. number_of (write_of a.0 (replicate a.1 0))) write_rows
+  pub aspt_read : Right (λ s. number_of (read_of s)) read_rows
+  pub aspt_write : Right (λ a. number_of (write_of a.0 (replicate a.1 0))) write_rows
   pub guids : Right (λ s. number_of (table_of s)) guid_rows
-  pub guid-start : Right (λ s. number_of (guid_start_of s)) guid_start_rows
-  pub guid-room : Right (λ a. number_of (guid_room_for a.0 a.1 a.2)) guid_room_rows
+  pub guid_start : Right (λ s. number_of (guid_start_of s)) guid_start_rows
+  pub guid_room : Right (λ a. number_of (guid_room_for a.0 a.1 a.2)) guid_room_rows
   pub consistent : Right (λ m. number_of (load_of m).answer) consistent_rows
   pub post : Right (λ a. number_of (post_of a.0 a.1 a.2 0).answer) post_rows
-  pub take-word : Right (λ a. number_of (take_of a.0 a.1).answer) take_rows
+  pub take_word : Right (λ a. number_of (take_of a.0 a.1).answer) take_rows
   pub load : Right (λ m. step_number (load_of m).answer) load_rows
   pub turn : Right (λ m. step_number (turn_of m).answer) turn_rows
   pub unload : Right (λ m. step_number (unload_of m).answer) unload_rows

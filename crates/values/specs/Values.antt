@@ -16,8 +16,8 @@ use Rattle.guids.specs.declared.Totals.{Totals}
 pub data Row : Type 0 where
   directory : (entries : List Fields) (checksum : ℕ) → Row
   firmware : (state : Firmware) (asked answered : ℕ) → Row
-  any-firmware : (asked answered : ℕ) → Row
-  guid-table : (total : ℕ) (answer : Reply Totals) → Row
+  any_firmware : (asked answered : ℕ) → Row
+  guid_table : (total : ℕ) (answer : Reply Totals) → Row
 
 -- that it holds
 abbrev pub Holds : Row → Type 0
@@ -26,9 +26,9 @@ Holds (directory entries checksum) = (level : ℕ) → get header.checksum (dire
 -- firmware in this state answers this command word with this word
 Holds (firmware state asked answered) = (run_of state asked).word ≡ answered
 -- firmware in any state does
-Holds (any-firmware asked answered) = (state : Firmware) → (run_of state asked).word ≡ answered
+Holds (any_firmware asked answered) = (state : Firmware) → (run_of state asked).word ≡ answered
 -- an image with the footer and this total, of any length and whatever else it holds, is answered so
-Holds (guid-table total answer) = (image : List ℕ) → shortest ≤ length image → guid_at image (footer_at image) ≡ footer → total_at image ≡ total → table_of image ≡ answer
+Holds (guid_table total answer) = (image : List ℕ) → shortest ≤ length image → guid_at image (footer_at image) ≡ footer → total_at image ≡ total → table_of image ≡ answer
 
 -- the entry of M2: type 1, subprogram 0, size 0x100, location 0x1000, mode 1
 abbrev pub entry : Fields
@@ -47,9 +47,9 @@ table =
     ∷ firmware fresh_firmware 0x0085_0401 0x8C85_0401  -- M5
     ∷ firmware after_m4 0x0085_0401 0x8885_0401  -- M6
     ∷ firmware after_m4 0x0085_0403 0xFC85_0403  -- M7
-    ∷ any-firmware 0x0086_0000 0x8486_0000  -- M8
-    ∷ guid-table 18 (given (record { total = 18; entries = 0 }))  -- M9
-    ∷ guid-table 17 (refused 3 alone)  -- M10
+    ∷ any_firmware 0x0086_0000 0x8486_0000  -- M8
+    ∷ guid_table 18 (given (record { total = 18; entries = 0 }))  -- M9
+    ∷ guid_table 17 (refused 3 alone)  -- M10
     ∷ []
 
 -- the statement

@@ -26,10 +26,10 @@ all : (s : List ℕ) (version : ℕ) → Holds s version → version_of s ≡ gi
 unfolding version_of
 all s version h = passed _ _ _ _ (le-leb _ _ h.present) ∙ passed _ _ _ _ (eq-eqb _ _ h.marked) ∙ ap given h.holds
 
-pub version-acceptance : VersionAcceptance
-version-acceptance = record { only = only; all = all }
+pub version_acceptance : VersionAcceptance
+version_acceptance = record { only = only; all = all }
 
-pub version-independence : VersionIndependence
+pub version_independence : VersionIndependence
 unfolding version_of
-version-independence s t long also same =
+version_independence s t long also same =
     rw (le-leb _ _ long, le-leb _ _ also, le_same 4 s t 0x10 (λ j a b. same j (omega arith)), le_same 4 s t 0x60 (λ j a b. same j (omega arith)))

@@ -9,9 +9,9 @@ use Rattle.version.specs.Version.{version_of}
 use Rattle.version_words.specs.Versions.{version_in}
 
 -- bytes that are those of a part that is given
-pub version-there : (s b : List ℕ) (q : Reply Part) (p : Part) → q ≡ given p → b ≡ bytes_of s q → version_of b ≡ version_in s q
-version-there s b q p g e = ap version_of e ∙ rw g
+pub version_there : (s b : List ℕ) (q : Reply Part) (p : Part) → q ≡ given p → b ≡ bytes_of s q → version_of b ≡ version_in s q
+version_there s b q p g e = ap version_of e ∙ rw g
 
 -- a part that is refused
-pub version-none : (s : List ℕ) (q : Reply Part) (number : ℕ) (carried : Carried) → q ≡ refused number carried → version_in s q ≡ refused number carried
-version-none s q number carried g = rw g
+pub version_none : (s : List ℕ) (q : Reply Part) (number : ℕ) (carried : Carried) → q ≡ refused number carried → version_in s q ≡ refused number carried
+version_none s q number carried g = rw g

@@ -8,12 +8,12 @@ use Rattle.reply.specs.Reply.{Reply, Carried, given, refused, alone, tested, in_
 use Rattle.reply.specs.declared.Met.{Met}
 use Rattle.reply.specs.declared.Met.TheVariants as place
 use Rattle.reply.specs.Back.{fault_by}
-use Rattle.reply.proofs.ReplyLaws.{one-by, apart, fault-back}
+use Rattle.reply.proofs.ReplyLaws.{one_by, apart, fault_back}
 use Rattle.entries.specs.Entry.{entry_of, matches}
 use Rattle.entries.specs.Good.{Matches}
 use Rattle.directory.specs.declared.Kind.{Kind}
 use Rattle.directory.specs.declared.Directory.{Directory}
-use Rattle.entries.proofs.Lowest.{match-says, match-holds}
+use Rattle.entries.proofs.Lowest.{match_says, match_holds}
 use Rattle.walk.specs.Walk.{Step, enter, test, fault, first_in, told_image_match}
 use Rattle.walk.specs.First.{tests, Quiet, match_in, Answered, matched, faulty, ended, FirstMatch, FoundApart}
 use Rattle.walk.specs.declared.ImageMatch.{ImageMatch}
@@ -21,62 +21,62 @@ use Rattle.walk.specs.declared.ImageMatchAnswer.{ImageMatchAnswer}
 use Rattle.walk.specs.declared.ImageMatchAnswer.TheVariants as image_match_answer
 
 module _ (kind : Kind) (s : List ℕ) (class sub : ℕ) where
-  no-match : (d : Directory) (i : ℕ) → (Matches kind s d class sub i → ⊥) → matches (entry_of kind s d i) class sub ≡ false
-  no-match d i f = by (matches (entry_of kind s d i) class sub) refl
+  no_match : (d : Directory) (i : ℕ) → (Matches kind s d class sub i → ⊥) → matches (entry_of kind s d i) class sub ≡ false
+  no_match d i f = by (matches (entry_of kind s d i) class sub) refl
     where
       by : (b : Bool) → matches (entry_of kind s d i) class sub ≡ b → b ≡ false
-      by true q = absurd (f (match-holds (entry_of kind s d i) class sub q))
+      by true q = absurd (f (match_holds (entry_of kind s d i) class sub q))
       by false q = refl
 
   -- quiet steps only add to the count
-  first-quiet : (xs ys : List Step) (t : ℕ) → Quiet kind s class sub xs → first_in kind s class sub (xs ++ ys) t ≡ first_in kind s class sub ys (t + tests xs)
+  first_quiet : (xs ys : List Step) (t : ℕ) → Quiet kind s class sub xs → first_in kind s class sub (xs ++ ys) t ≡ first_in kind s class sub ys (t + tests xs)
   unfolding Quiet first_in tests
-  first-quiet [] ys t q = ap (first_in kind s class sub ys) (omega arith)
-  first-quiet (enter d ∷ xs) ys t q = first-quiet xs ys t q
-  first-quiet (test d i ∷ xs) ys t q = rw (no-match d i q.0) (first-quiet xs ys (t + 1) q.1 ∙ ap (first_in kind s class sub ys) (omega arith))
-  first-quiet (fault number carried ∷ xs) ys t q = absurd q
+  first_quiet [] ys t q = ap (first_in kind s class sub ys) (omega arith)
+  first_quiet (enter d ∷ xs) ys t q = first_quiet xs ys t q
+  first_quiet (test d i ∷ xs) ys t q = rw (no_match d i q.0) (first_quiet xs ys (t + 1) q.1 ∙ ap (first_in kind s class sub ys) (omega arith))
+  first_quiet (fault number carried ∷ xs) ys t q = absurd q
 
-  quiet-append : (xs ys : List Step) → Quiet kind s class sub xs → Quiet kind s class sub ys → Quiet kind s class sub (xs ++ ys)
+  quiet_append : (xs ys : List Step) → Quiet kind s class sub xs → Quiet kind s class sub ys → Quiet kind s class sub (xs ++ ys)
   unfolding Quiet
-  quiet-append [] ys p q = q
-  quiet-append (enter d ∷ xs) ys p q = quiet-append xs ys p q
-  quiet-append (test d i ∷ xs) ys p q = (p.0, quiet-append xs ys p.1 q)
-  quiet-append (fault number carried ∷ xs) ys p q = absurd p
+  quiet_append [] ys p q = q
+  quiet_append (enter d ∷ xs) ys p q = quiet_append xs ys p q
+  quiet_append (test d i ∷ xs) ys p q = (p.0, quiet_append xs ys p.1 q)
+  quiet_append (fault number carried ∷ xs) ys p q = absurd p
 
-  at-match : (before after : List Step) (d : Directory) (i : ℕ) → Quiet kind s class sub before → Matches kind s d class sub i →
+  at_match : (before after : List Step) (d : Directory) (i : ℕ) → Quiet kind s class sub before → Matches kind s d class sub i →
       first_in kind s class sub (before ++ (test d i ∷ after)) 0 ≡ given (match_in d i (tests before + 1))
   unfolding first_in
-  at-match before after d i q m =
+  at_match before after d i q m =
       let z : 0 + tests before ≡ tests before = omega arith in
-      first-quiet before (test d i ∷ after) 0 q ∙ rw (match-says (entry_of kind s d i) class sub m, z)
+      first_quiet before (test d i ∷ after) 0 q ∙ rw (match_says (entry_of kind s d i) class sub m, z)
 
-  at-fault : (before after : List Step) (number : ℕ) (carried : Carried) → Quiet kind s class sub before → first_in kind s class sub (before ++ (fault number carried ∷ after)) 0 ≡ refused number carried
+  at_fault : (before after : List Step) (number : ℕ) (carried : Carried) → Quiet kind s class sub before → first_in kind s class sub (before ++ (fault number carried ∷ after)) 0 ≡ refused number carried
   unfolding first_in
-  at-fault before after number carried q = first-quiet before (fault number carried ∷ after) 0 q
+  at_fault before after number carried q = first_quiet before (fault number carried ∷ after) 0 q
 
-  at-end : (steps : List Step) → Quiet kind s class sub steps → first_in kind s class sub steps 0 ≡ refused 8 (tested (tests steps))
+  at_end : (steps : List Step) → Quiet kind s class sub steps → first_in kind s class sub steps 0 ≡ refused 8 (tested (tests steps))
   unfolding first_in
-  at-end steps q =
+  at_end steps q =
       let z : 0 + tests steps ≡ tests steps = omega arith in
-      ap (λ (l : List Step). first_in kind s class sub l 0) (sym (append-nil steps)) ∙ first-quiet steps [] 0 q ∙ ap (λ (n : ℕ). refused 8 (tested n)) z
+      ap (λ (l : List Step). first_in kind s class sub l 0) (sym (append-nil steps)) ∙ first_quiet steps [] 0 q ∙ ap (λ (n : ℕ). refused 8 (tested n)) z
 
   answer : (steps xs ys : List Step) → steps ≡ xs ++ ys → Quiet kind s class sub xs → Answered kind s class sub steps (first_in kind s class sub steps 0)
   unfolding Quiet
-  answer steps xs [] e q = let w : steps ≡ xs = e ∙ append-nil xs in let r : Quiet kind s class sub steps = rw w q in ended r (at-end steps r)
-  answer steps xs (enter d ∷ ys) e q = answer steps (xs ++ (enter d ∷ [])) ys (e ∙ sym (append_assoc xs (enter d ∷ []) ys)) (quiet-append xs (enter d ∷ []) q tt)
+  answer steps xs [] e q = let w : steps ≡ xs = e ∙ append-nil xs in let r : Quiet kind s class sub steps = rw w q in ended r (at_end steps r)
+  answer steps xs (enter d ∷ ys) e q = answer steps (xs ++ (enter d ∷ [])) ys (e ∙ sym (append_assoc xs (enter d ∷ []) ys)) (quiet_append xs (enter d ∷ []) q tt)
   answer steps xs (test d i ∷ ys) e q = by (matches (entry_of kind s d i) class sub) refl (answer steps (xs ++ (test d i ∷ [])) ys (e ∙ sym (append_assoc xs (test d i ∷ []) ys)))
     where
       by : (b : Bool) → matches (entry_of kind s d i) class sub ≡ b → (Quiet kind s class sub (xs ++ (test d i ∷ [])) → Answered kind s class sub steps (first_in kind s class sub steps 0)) → Answered kind s class sub steps (first_in kind s class sub steps 0)
-      by true m next = let h = match-holds (entry_of kind s d i) class sub m in matched xs ys d i e q h (ap (λ (l : List Step). first_in kind s class sub l 0) e ∙ at-match xs ys d i q h)
-      by false m next = next (quiet-append xs (test d i ∷ []) q ((λ h. apart (match-says (entry_of kind s d i) class sub h) m), tt))
-  answer steps xs (fault number carried ∷ ys) e q = faulty xs ys number carried e q (ap (λ (l : List Step). first_in kind s class sub l 0) e ∙ at-fault xs ys number carried q)
+      by true m next = let h = match_holds (entry_of kind s d i) class sub m in matched xs ys d i e q h (ap (λ (l : List Step). first_in kind s class sub l 0) e ∙ at_match xs ys d i q h)
+      by false m next = next (quiet_append xs (test d i ∷ []) q ((λ h. apart (match_says (entry_of kind s d i) class sub h) m), tt))
+  answer steps xs (fault number carried ∷ ys) e q = faulty xs ys number carried e q (ap (λ (l : List Step). first_in kind s class sub l 0) e ∙ at_fault xs ys number carried q)
 
   answered : (steps : List Step) → Answered kind s class sub steps (first_in kind s class sub steps 0)
   unfolding Quiet
   answered steps = answer steps [] steps refl tt
 
-pub first-match : FirstMatch
-first-match = record { answered = answered; match = at-match; stop = at-fault; absent = at-end }
+pub first_match : FirstMatch
+first_match = record { answered = answered; match = at_match; stop = at_fault; absent = at_end }
 
 found_back : Reply ImageMatch → ImageMatchAnswer
 found_back (given f) = image_match_answer.Given f
@@ -86,17 +86,17 @@ found_back (refused number (in_header level directory)) = image_match_answer.Ref
 found_back (refused number (in_entry level index directory)) = image_match_answer.Refused (fault_by number (in_entry level index directory))
 
 -- where a fault was met is never a count
-found-met : (number : ℕ) (m : Met) → found_back (refused number (carried_of m)) ≡ image_match_answer.Refused (fault_by number (carried_of m))
+found_met : (number : ℕ) (m : Met) → found_back (refused number (carried_of m)) ≡ image_match_answer.Refused (fault_by number (carried_of m))
 unfolding found_back
-found-met number place.Alone = refl
-found-met number (place.Header level directory) = refl
-found-met number (place.Entry level index directory) = refl
+found_met number place.Alone = refl
+found_met number (place.Header level directory) = refl
+found_met number (place.Entry level index directory) = refl
 
 found_back_lem : (x : ImageMatchAnswer) → found_back (told_image_match x) ≡ x
 unfolding found_back
 found_back_lem (image_match_answer.Given f) = refl
 found_back_lem (image_match_answer.Absent n) = refl
-found_back_lem (image_match_answer.Refused why) = found-met why.number why.met ∙ ap (λ w. image_match_answer.Refused w) (fault-back why)
+found_back_lem (image_match_answer.Refused why) = found_met why.number why.met ∙ ap (λ w. image_match_answer.Refused w) (fault_back why)
 
-pub found-apart : FoundApart
-found-apart = one-by told_image_match found_back found_back_lem
+pub found_apart : FoundApart
+found_apart = one_by told_image_match found_back found_back_lem

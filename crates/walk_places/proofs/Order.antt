@@ -62,22 +62,22 @@ ordered (below i j) (below k l) = by (compared i k) (compared j l)
     by (more h) c = after (inl h)
 
 -- a reply gives one thing
-pub one-given : {A : Type 0} {r : Reply A} {a b : A} → r ≡ given a → r ≡ given b → a ≡ b
-one-given e h = let g = sym e ∙ h in cc
+pub one_given : {A : Type 0} {r : Reply A} {a b : A} → r ≡ given a → r ≡ given b → a ≡ b
+one_given e h = let g = sym e ∙ h in cc
 
 module _ (r : Rules) (s : List ℕ) (d : Directory) where
   -- a lead leads to a directory or is at fault, not both
-  pub no-fault : (i number : ℕ) (carried : Carried) (n : Directory) → Enters r s d i n → FaultAt r s d i number carried → ⊥
-  no-fault i number carried n e f = clash (sym f.fault ∙ e.directory)
+  pub no_fault : (i number : ℕ) (carried : Carried) (n : Directory) → Enters r s d i n → FaultAt r s d i number carried → ⊥
+  no_fault i number carried n e f = clash (sym f.fault ∙ e.directory)
 
   -- a spot is in one directory
-  pub one-directory : (p : Spot) (m n : Directory) → IsIn r s d p m → IsIn r s d p n → m ≡ n
-  one-directory (top i) m n a b = a.0 ∙ sym b.0
-  one-directory (below i j) m n a b = one-given a.0.directory b.0.directory
+  pub one_directory : (p : Spot) (m n : Directory) → IsIn r s d p m → IsIn r s d p n → m ≡ n
+  one_directory (top i) m n a b = a.0 ∙ sym b.0
+  one_directory (below i j) m n a b = one_given a.0.directory b.0.directory
 
   module _ (class sub : ℕ) where
-    pub at-start : Reached r s d class sub (top 0)
-    at-start = record { unmatched = none; sound = λ k number carried h f. omega arith }
+    pub at_start : Reached r s d class sub (top 0)
+    at_start = record { unmatched = none; sound = λ k number carried h f. omega arith }
       where
         none : (q : Spot) → Earlier q (top 0) → MatchAt r s d class sub q → ⊥
         none (top k) h m = omega arith
@@ -89,7 +89,7 @@ module _ (r : Rules) (s : List ℕ) (d : Directory) where
       where
         at : (k : ℕ) → k ≤ i → MatchAt r s d class sub (top k) → Compared k i → ⊥
         at k h m (less l) = w.unmatched (top k) l m
-        at k h m (equal e) = f (subst (λ (n : Directory). Matches r.kind s n class sub i) m.is-in.0 (subst (Matches r.kind s m.directory class sub) e m.here))
+        at k h m (equal e) = f (subst (λ (n : Directory). Matches r.kind s n class sub i) m.is_in.0 (subst (Matches r.kind s m.directory class sub) e m.here))
         at k h m (more l) = omega arith
 
         none : (q : Spot) → Earlier q (below i 0) → MatchAt r s d class sub q → ⊥
@@ -98,13 +98,13 @@ module _ (r : Rules) (s : List ℕ) (d : Directory) where
         none (below k l) (inr (e, h)) m = omega arith
 
     -- past the test of an entry of level two
-    pub past-below : (i j : ℕ) (n : Directory) → Enters r s d i n → Reached r s d class sub (below i j) → (Matches r.kind s n class sub j → ⊥) → Reached r s d class sub (below i (j + 1))
-    past-below i j n e w f = record { unmatched = none; sound = w.sound }
+    pub past_below : (i j : ℕ) (n : Directory) → Enters r s d i n → Reached r s d class sub (below i j) → (Matches r.kind s n class sub j → ⊥) → Reached r s d class sub (below i (j + 1))
+    past_below i j n e w f = record { unmatched = none; sound = w.sound }
       where
         at : (k l : ℕ) → k ≡ i → l < j + 1 → MatchAt r s d class sub (below k l) → Compared l j → ⊥
         at k l z h m (less g) = w.unmatched (below k l) (inr (z, g)) m
         at k l z h m (equal g) =
-            let x : m.directory ≡ n = one-given m.is-in.0.directory (subst (λ (k : ℕ). Enters r s d k n) (sym z) e).directory in
+            let x : m.directory ≡ n = one_given m.is_in.0.directory (subst (λ (k : ℕ). Enters r s d k n) (sym z) e).directory in
             f (subst (λ (n : Directory). Matches r.kind s n class sub j) x (subst (Matches r.kind s m.directory class sub) g m.here))
         at k l z h m (more g) = omega arith
 
@@ -114,9 +114,9 @@ module _ (r : Rules) (s : List ℕ) (d : Directory) where
         none (below k l) (inr (z, h)) m = at k l z h m (compared l j)
 
     -- past an entry of level one and all that it leads to
-    pub past-entry : (i j : ℕ) → Reached r s d class sub (below i j) → ((l : ℕ) → j ≤ l → MatchAt r s d class sub (below i l) → ⊥) →
+    pub past_entry : (i j : ℕ) → Reached r s d class sub (below i j) → ((l : ℕ) → j ≤ l → MatchAt r s d class sub (below i l) → ⊥) →
         ((number : ℕ) (carried : Carried) → FaultAt r s d i number carried → ⊥) → Reached r s d class sub (top (i + 1))
-    past-entry i j w f g = record { unmatched = none; sound = λ k number carried h x. sound k number carried h x (compared k i) }
+    past_entry i j w f g = record { unmatched = none; sound = λ k number carried h x. sound k number carried h x (compared k i) }
       where
         sound : (k number : ℕ) (carried : Carried) → k < i + 1 → FaultAt r s d k number carried → Compared k i → ⊥
         sound k number carried h x (less l) = w.sound k number carried l x

@@ -19,7 +19,7 @@ use Rattle.walk.specs.Walk.{entries_from, below_of, first_in, find_image}
 use Rattle.walk.specs.declared.ImageMatch.{ImageMatch}
 use Rattle.walk_places.specs.Lookup.{Find, Lookup}
 use Rattle.walk_places.specs.Wrong.{entries_back, below_back, backwards, skips_level_two, faultless, passes_faults, below_all, level_one_first, entries_late, enters_first, index_zero, made_up_count, finds_nothing, RuledOut}
-use Rattle.walk_places.proofs.Lookup.{image-lookup-by-places}
+use Rattle.walk_places.proofs.Lookup.{image_lookup_by_places}
 
 -- ---- an image with its EFS at 0, level one at 36 and level two at 84, each of two entries
 abbrev rules : Rules
@@ -44,51 +44,51 @@ told field (refused number carried) = number
 
 -- what a lookup that fits the statement answers of type 1 there
 answer : (find : Find) → Lookup find → (mode : ℕ) → find rules (image_with mode) 1 0 ≡ find_image rules (image_with mode) 1 0
-answer find w mode = image-lookup-by-places.settles find w rules (image_with mode) 1 0
+answer find w mode = image_lookup_by_places.settles find w rules (image_with mode) 1 0
 
 -- the match in level one's last entry, where the first leads to one
-walks-backwards : Lookup backwards → ⊥
+walks_backwards : Lookup backwards → ⊥
 unfolding le_at le_bytes words_at sum_of weighted_of fletcher_of scan some_below offset_in directory_checks leads_to candidate_at pointer_to pointer_of flash_directory entries_from below_of first_in entries_back below_back
-walks-backwards w = let z : ◌≡◌ {A = ℕ} 1 2 = ap (told (λ f. f.level)) (answer backwards w 1) in omega arith
+walks_backwards w = let z : ◌≡◌ {A = ℕ} 1 2 = ap (told (λ f. f.level)) (answer backwards w 1) in omega arith
 
-skips-level-two : Lookup skips_level_two → ⊥
+skips_level_two_lem : Lookup skips_level_two → ⊥
 unfolding le_at le_bytes words_at sum_of weighted_of fletcher_of scan some_below offset_in directory_checks leads_to candidate_at pointer_to pointer_of flash_directory entries_from below_of first_in
-skips-level-two w = let z : ◌≡◌ {A = ℕ} 1 2 = ap (told (λ f. f.level)) (answer skips_level_two w 1) in omega arith
+skips_level_two_lem w = let z : ◌≡◌ {A = ℕ} 1 2 = ap (told (λ f. f.level)) (answer skips_level_two w 1) in omega arith
 
 -- mode 3: 16, and not the match behind it
-passes-faults : Lookup passes_faults → ⊥
+passes_faults_lem : Lookup passes_faults → ⊥
 unfolding le_at le_bytes words_at sum_of weighted_of fletcher_of scan some_below offset_in directory_checks leads_to candidate_at pointer_to pointer_of flash_directory entries_from below_of first_in faultless
-passes-faults w = let z : ◌≡◌ {A = ℕ} 1 16 = ap (told (λ f. f.level)) (answer passes_faults w 3) in omega arith
+passes_faults_lem w = let z : ◌≡◌ {A = ℕ} 1 16 = ap (told (λ f. f.level)) (answer passes_faults w 3) in omega arith
 
-level-one-first : Lookup level_one_first → ⊥
+level_one_first_lem : Lookup level_one_first → ⊥
 unfolding le_at le_bytes words_at sum_of weighted_of fletcher_of scan some_below offset_in directory_checks leads_to candidate_at pointer_to pointer_of flash_directory entries_from below_of first_in below_all
-level-one-first w = let z : ◌≡◌ {A = ℕ} 1 2 = ap (told (λ f. f.level)) (answer level_one_first w 1) in omega arith
+level_one_first_lem w = let z : ◌≡◌ {A = ℕ} 1 2 = ap (told (λ f. f.level)) (answer level_one_first w 1) in omega arith
 
 -- a count that leaves the lead out
-enters-first : Lookup enters_first → ⊥
+enters_first_lem : Lookup enters_first → ⊥
 unfolding le_at le_bytes words_at sum_of weighted_of fletcher_of scan some_below offset_in directory_checks leads_to candidate_at pointer_to pointer_of flash_directory entries_from below_of first_in entries_late
-enters-first w = let z : ◌≡◌ {A = ℕ} 2 3 = ap (told (λ f. f.tested)) (answer enters_first w 1) in omega arith
+enters_first_lem w = let z : ◌≡◌ {A = ℕ} 2 3 = ap (told (λ f. f.tested)) (answer enters_first w 1) in omega arith
 
-index-zero : Lookup index_zero → ⊥
+index_zero_lem : Lookup index_zero → ⊥
 unfolding le_at le_bytes words_at sum_of weighted_of fletcher_of scan some_below offset_in directory_checks leads_to candidate_at pointer_to pointer_of flash_directory entries_from below_of first_in
-index-zero w = let z : ◌≡◌ {A = ℕ} 0 1 = ap (told (λ f. f.index)) (answer index_zero w 1) in omega arith
+index_zero_lem w = let z : ◌≡◌ {A = ℕ} 0 1 = ap (told (λ f. f.index)) (answer index_zero w 1) in omega arith
 
-made-up-count : Lookup made_up_count → ⊥
+made_up_count_lem : Lookup made_up_count → ⊥
 unfolding le_at le_bytes words_at sum_of weighted_of fletcher_of scan some_below offset_in directory_checks leads_to candidate_at pointer_to pointer_of flash_directory entries_from below_of first_in
-made-up-count w = let z : ◌≡◌ {A = ℕ} 4 3 = ap (told (λ f. f.tested)) (answer made_up_count w 1) in omega arith
+made_up_count_lem w = let z : ◌≡◌ {A = ℕ} 4 3 = ap (told (λ f. f.tested)) (answer made_up_count w 1) in omega arith
 
-finds-nothing : Lookup finds_nothing → ⊥
+finds_nothing_lem : Lookup finds_nothing → ⊥
 unfolding le_at le_bytes words_at sum_of weighted_of fletcher_of scan some_below offset_in directory_checks leads_to candidate_at pointer_to pointer_of flash_directory entries_from below_of first_in
-finds-nothing w = let z : ◌≡◌ {A = ℕ} 8 2 = ap (told (λ f. f.level)) (answer finds_nothing w 1) in omega arith
+finds_nothing_lem w = let z : ◌≡◌ {A = ℕ} 8 2 = ap (told (λ f. f.level)) (answer finds_nothing w 1) in omega arith
 
 pub ruled_out : RuledOut
 ruled_out = record {
-  walks-backwards = walks-backwards;
-  skips-level-two = skips-level-two;
-  passes-faults = passes-faults;
-  level-one-first = level-one-first;
-  enters-first = enters-first;
-  index-zero = index-zero;
-  made-up-count = made-up-count;
-  finds-nothing = finds-nothing;
+  walks_backwards = walks_backwards;
+  skips_level_two_lem = skips_level_two_lem;
+  passes_faults_lem = passes_faults_lem;
+  level_one_first_lem = level_one_first_lem;
+  enters_first_lem = enters_first_lem;
+  index_zero_lem = index_zero_lem;
+  made_up_count_lem = made_up_count_lem;
+  finds_nothing_lem = finds_nothing_lem;
 }

@@ -18,18 +18,18 @@ pub data WhyFault (r : Rules) (image : List ℕ) (d : Directory) (i number : ℕ
   outside : ((entry_of r.kind image d i).mode ≡ 3 → ⊥) → ((place : ℕ) → BeginsAt r.window d.place.0 (entry_of r.kind image d i) place → length image < place) → number ≡ 7 →
       carried ≡ in_entry d.level i d.place.0 → WhyFault r image d i number carried
   -- it begins within the image, where no directory of level two is good: the number of its checks, and where they met it
-  bad-directory : (place : ℕ) → BeginsAt r.window d.place.0 (entry_of r.kind image d i) place → place ≤ length image →
+  bad_directory : (place : ℕ) → BeginsAt r.window d.place.0 (entry_of r.kind image d i) place → place ≤ length image →
       directory_at r.kind r.limit 2 image place ≡ refused number carried → WhyFault r image d i number carried
 
 -- by rules with a window that fits below 4 GiB
 pub record LeadTold (r : Rules) (image : List ℕ) (d : Directory) (i : ℕ) : Type 0 where
   -- it leads to a directory exactly where that is good and begins where the location says
-  pub given-only : (n : Directory) → led_to r image d i ≡ given n →
+  pub given_only : (n : Directory) → led_to r image d i ≡ given n →
       BeginsAt r.window d.place.0 (entry_of r.kind image d i) n.place.0 × GoodDirectory r.kind r.limit image n × (n.level ≡ 2)
-  pub given-all : (n : Directory) → BeginsAt r.window d.place.0 (entry_of r.kind image d i) n.place.0 → GoodDirectory r.kind r.limit image n → n.level ≡ 2 →
+  pub given_all : (n : Directory) → BeginsAt r.window d.place.0 (entry_of r.kind image d i) n.place.0 → GoodDirectory r.kind r.limit image n → n.level ≡ 2 →
       led_to r image d i ≡ given n
   -- it is refused exactly for a reason, with that number and what it carries
-  pub refused-only : (number : ℕ) (carried : Carried) → led_to r image d i ≡ refused number carried → WhyFault r image d i number carried
+  pub refused_only : (number : ℕ) (carried : Carried) → led_to r image d i ≡ refused number carried → WhyFault r image d i number carried
   pub refused_all : (number : ℕ) (carried : Carried) → WhyFault r image d i number carried → led_to r image d i ≡ refused number carried
 
 abbrev pub LeadsTold : Type 0

@@ -49,7 +49,7 @@ in_level_one d (refused number carried) = refused number carried
 pub record Answers (find : Find) (r : Rules) (image : List ℕ) (class sub : ℕ) (d : Directory) : Type 0 where
   -- a match is given exactly where it is the first
   pub found : (p : Spot) (f : ImageMatch) → FirstMatch r image d class sub p f → find r image class sub ≡ given f
-  pub found-only : (f : ImageMatch) → find r image class sub ≡ given f → (p : Spot) × FirstMatch r image d class sub p f
+  pub found_only : (f : ImageMatch) → find r image class sub ≡ given f → (p : Spot) × FirstMatch r image d class sub p f
   -- the first fault before a match is the answer
   pub fault : (i number : ℕ) (carried : Carried) → FirstFault r image d class sub i number carried → find r image class sub ≡ refused number carried
   -- where there is neither, 8 with the count of all spots
@@ -57,12 +57,12 @@ pub record Answers (find : Find) (r : Rules) (image : List ℕ) (class sub : ℕ
   -- there is no other case
   pub answered : Answered r image d class sub (find r image class sub)
   -- without a lead in level one it is the lookup in level one
-  pub no-leads : None (Leads r.kind image d) d.total → find r image class sub ≡ in_level_one d (flash_find r 1 image class sub)
+  pub no_leads : None (Leads r.kind image d) d.total → find r image class sub ≡ in_level_one d (flash_find r 1 image class sub)
 
 pub record Lookup (find : Find) : Type 0 where
   -- level one is refused: so is the lookup, and from a lookup 8, both pointers absent, carries the count 0
   pub no_pointer : (r : Rules) (image : List ℕ) (class sub : ℕ) (carried : Carried) → flash_directory r 1 image ≡ refused 8 carried → find r image class sub ≡ refused 8 (tested 0)
-  pub no-level-one : (r : Rules) (image : List ℕ) (class sub number : ℕ) (carried : Carried) → (number ≡ 8 → ⊥) → flash_directory r 1 image ≡ refused number carried →
+  pub no_level_one : (r : Rules) (image : List ℕ) (class sub number : ℕ) (carried : Carried) → (number ≡ 8 → ⊥) → flash_directory r 1 image ≡ refused number carried →
       find r image class sub ≡ refused number carried
   pub answers : (r : Rules) (image : List ℕ) (class sub : ℕ) (d : Directory) → flash_directory r 1 image ≡ given d → Answers find r image class sub d
 

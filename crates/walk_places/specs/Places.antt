@@ -59,7 +59,7 @@ IsIn r image d (below i j) n = Enters r image d i n × (j < n.total)
 -- the entry at the spot p has this type and subprogram
 pub record MatchAt (r : Rules) (image : List ℕ) (d : Directory) (class sub : ℕ) (p : Spot) : Type 0 where
   pub directory : Directory
-  pub is-in : IsIn r image d p directory
+  pub is_in : IsIn r image d p directory
   pub here : Matches r.kind image directory class sub (inner p)
 
 -- the walk comes to the spot p: no earlier spot matches, and no lead before it is at fault

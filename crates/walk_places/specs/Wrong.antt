@@ -72,11 +72,11 @@ abbrev pub finds_nothing : Find
 finds_nothing r image class sub = refused 8 (tested 0)
 
 pub record RuledOut : Type 0 where
-  pub walks-backwards : Lookup backwards → ⊥
-  pub skips-level-two : Lookup skips_level_two → ⊥
-  pub passes-faults : Lookup passes_faults → ⊥
-  pub level-one-first : Lookup level_one_first → ⊥
-  pub enters-first : Lookup enters_first → ⊥
-  pub index-zero : Lookup index_zero → ⊥
-  pub made-up-count : Lookup made_up_count → ⊥
-  pub finds-nothing : Lookup finds_nothing → ⊥
+  pub walks_backwards : Lookup backwards → ⊥
+  pub skips_level_two_lem : Lookup skips_level_two → ⊥
+  pub passes_faults_lem : Lookup passes_faults → ⊥
+  pub level_one_first_lem : Lookup level_one_first → ⊥
+  pub enters_first_lem : Lookup enters_first → ⊥
+  pub index_zero_lem : Lookup index_zero → ⊥
+  pub made_up_count_lem : Lookup made_up_count → ⊥
+  pub finds_nothing_lem : Lookup finds_nothing → ⊥

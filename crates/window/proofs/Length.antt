@@ -12,21 +12,21 @@ use Rattle.window.specs.Length.{longest, length_allowed, sized}
 use Rattle.window.specs.Inside.{GoodLength}
 
 -- the test as a fact and back
-pub allowed-fact : (s : List ℕ) → length_allowed s ≡ true → GoodLength s
-allowed-fact s e = let g = (and-eq-true_iff (leb 1 (length s)) (leb (length s) longest)).0 e in record { from = leb-true _ _ g.0; to = leb-true _ _ g.1 }
+pub allowed_fact : (s : List ℕ) → length_allowed s ≡ true → GoodLength s
+allowed_fact s e = let g = (and-eq-true_iff (leb 1 (length s)) (leb (length s) longest)).0 e in record { from = leb-true _ _ g.0; to = leb-true _ _ g.1 }
 
-pub allowed-test : (s : List ℕ) → GoodLength s → length_allowed s ≡ true
-allowed-test s z = rw (le-leb 1 (length s) z.from, le-leb (length s) longest z.to)
+pub allowed_test : (s : List ℕ) → GoodLength s → length_allowed s ≡ true
+allowed_test s z = rw (le-leb 1 (length s) z.from, le-leb (length s) longest z.to)
 
-pub sized-passed : {A : Type 0} (s : List ℕ) (rest : Reply A) → GoodLength s → sized s rest ≡ rest
-sized-passed s rest z = passed _ _ _ _ (allowed-test s z)
+pub sized_passed : {A : Type 0} (s : List ℕ) (rest : Reply A) → GoodLength s → sized s rest ≡ rest
+sized_passed s rest z = passed _ _ _ _ (allowed_test s z)
 
 pub sized_past : {A : Type 0} {a : A} (s : List ℕ) (rest : Reply A) → sized s rest ≡ given a → GoodLength s × (rest ≡ given a)
-sized_past s rest e = let g = past (length_allowed s) _ _ _ e in (allowed-fact s g.0, g.1)
+sized_past s rest e = let g = past (length_allowed s) _ _ _ e in (allowed_fact s g.0, g.1)
 
 -- what comes after a step comes after the test
-pub sized-then : {A : Type 0} {B : Type 0} (s : List ℕ) (rest : Reply A) (next : A → Reply B) → then (sized s rest) next ≡ sized s (then rest next)
-sized-then s rest next = by (length_allowed s)
+pub sized_then : {A : Type 0} {B : Type 0} (s : List ℕ) (rest : Reply A) (next : A → Reply B) → then (sized s rest) next ≡ sized s (then rest next)
+sized_then s rest next = by (length_allowed s)
   where
     by : (b : Bool) → then (guard b 15 rest) next ≡ guard b 15 (then rest next)
     by true = refl
@@ -36,5 +36,5 @@ sized-then s rest next = by (length_allowed s)
 pub sized_on : {A : Type 0} {x : Reply A} (s : List ℕ) (rest : Reply A) (b : Bool) → b ≡ length_allowed s → b ≡ true → x ≡ rest → x ≡ sized s rest
 sized_on s rest b e t q = q ∙ sym (passed _ _ _ _ (sym e ∙ t))
 
-pub sized-off : {A : Type 0} (s : List ℕ) (rest : Reply A) (b : Bool) → b ≡ length_allowed s → b ≡ false → refused 15 alone ≡ sized s rest
-sized-off s rest b e t = sym (failed _ _ _ _ (sym e ∙ t))
+pub sized_off : {A : Type 0} (s : List ℕ) (rest : Reply A) (b : Bool) → b ≡ length_allowed s → b ≡ false → refused 15 alone ≡ sized s rest
+sized_off s rest b e t = sym (failed _ _ _ _ (sym e ∙ t))

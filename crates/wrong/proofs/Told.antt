@@ -7,7 +7,7 @@ use lib.ListN.{length}
 use lib.Dec.{leb, eqb}
 use Rattle.reply.specs.Reply.{Reply, given, refused}
 use Rattle.reply.specs.Back.{fault_by}
-use Rattle.reply.proofs.ReplyLaws.{one-by, fault-back}
+use Rattle.reply.proofs.ReplyLaws.{one_by, fault_back}
 use Rattle.wrong.specs.Wrong.{told_wrong}
 use Rattle.wrong.specs.Told.{ToldApart, SameNumber}
 use Rattle.wrong.specs.declared.WrongField.{WrongField}
@@ -18,26 +18,26 @@ wrong_back : Reply WrongField → WrongAnswer
 wrong_back (given w) = wrong_answer.Given w
 wrong_back (refused number carried) = wrong_answer.Refused (fault_by number carried)
 
-wrong-back : (x : WrongAnswer) → wrong_back (told_wrong x) ≡ x
+wrong_back_lem : (x : WrongAnswer) → wrong_back (told_wrong x) ≡ x
 unfolding wrong_back
-wrong-back (wrong_answer.Given w) = refl
-wrong-back (wrong_answer.Refused why) = ap (λ w. wrong_answer.Refused w) (fault-back why)
+wrong_back_lem (wrong_answer.Given w) = refl
+wrong_back_lem (wrong_answer.Refused why) = ap (λ w. wrong_answer.Refused w) (fault_back why)
 
-pub told-apart : ToldApart
-told-apart = one-by told_wrong wrong_back wrong-back
+pub told_apart : ToldApart
+told_apart = one_by told_wrong wrong_back wrong_back_lem
 
 -- one of two, by a test
-by-test : {n : ℕ} (b : Bool) (x y : WrongField) → (b ≡ true → x.number ≡ n) → y.number ≡ n → (cond b x y).number ≡ n
-by-test true x y f g = f refl
-by-test false x y f g = g
+by_test : {n : ℕ} (b : Bool) (x y : WrongField) → (b ≡ true → x.number ≡ n) → y.number ≡ n → (cond b x y).number ≡ n
+by_test true x y f g = f refl
+by_test false x y f g = g
 
 pub same_number : SameNumber
 same_number = record {
   header = λ r s number level o.
       let is : (k : ℕ) → eqb number k ≡ true → k ≡ number = λ k e. sym (eqb-true number k e) in
-      by-test (eqb number 1) _ _ (λ e. by-test (leb (o + 16) (length s)) _ _ (λ _. is 1 e) (is 1 e))
-      (by-test (eqb number 2) _ _ (is 2) (by-test (eqb number 3) _ _ (is 3) (by-test (eqb number 4) _ _ (is 4) refl)));
+      by_test (eqb number 1) _ _ (λ e. by_test (leb (o + 16) (length s)) _ _ (λ _. is 1 e) (is 1 e))
+      (by_test (eqb number 2) _ _ (is 2) (by_test (eqb number 3) _ _ (is 3) (by_test (eqb number 4) _ _ (is 4) refl)));
   entry = λ r s number i o.
       let is : (k : ℕ) → eqb number k ≡ true → k ≡ number = λ k e. sym (eqb-true number k e) in
-      by-test (eqb number 5) _ _ (is 5) (by-test (eqb number 14) _ _ (is 14) (by-test (eqb number 18) _ _ (is 18) (by-test (eqb number 17) _ _ (is 17) (by-test (eqb number 16) _ _ (is 16) refl))));
+      by_test (eqb number 5) _ _ (is 5) (by_test (eqb number 14) _ _ (is 14) (by_test (eqb number 18) _ _ (is 18) (by_test (eqb number 17) _ _ (is 17) (by_test (eqb number 16) _ _ (is 16) refl))));
 }

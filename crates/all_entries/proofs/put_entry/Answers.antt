@@ -1,10 +1,10 @@
 use native.Mathlib.Omega.{arith}
-use Rattle.all_entries.proofs.Rows.{entry-from, row_put}
+use Rattle.all_entries.proofs.Rows.{entry_from, row_put}
 use Rattle.all_entries.proofs.put_entry.Goals as goal
 
 pub slice_bounds-fields_of-end : goal.slice_bounds-fields_of-end
 slice_bounds-fields_of-end c = let a = c.args in
-    let at = entry-from a.image.now a.d a.i _ c.rules_of-rules.ensures _ c.place-at.ensures _ c.entry_place-from.ensures.value in
+    let at = entry_from a.image.now a.d a.i _ c.rules_of-rules.ensures _ c.place-at.ensures _ c.entry_place-from.ensures.value in
     omega (arith, at)
 
 pub returns : goal.returns

@@ -1,6 +1,6 @@
 use borrow.Author.Rules.{rules}
 use native.Mathlib.Omega.{arith}
-use Rattle.aspt.proofs.Loops.{sum_step, sum-end}
+use Rattle.aspt.proofs.Loops.{sum_step, sum_end}
 use Rattle.aspt.proofs.sum_of.Goals as goal
 
 pub overflow_cast-sum-in-loop-i : goal.overflow_cast-sum-in-loop-i
@@ -14,4 +14,4 @@ loop-i-preserved c = let i = c.loop-i.i in
     omega (arith, c.shared_slice_known-1.given i, sum_step c.args.bytes.now i (search rules))
 
 pub returns : goal.returns
-returns c = omega (arith, sum-end c.args.bytes.now c.loop-i.i (search rules))
+returns c = omega (arith, sum_end c.args.bytes.now c.loop-i.i (search rules))

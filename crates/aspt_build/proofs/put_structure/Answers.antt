@@ -1,5 +1,5 @@
-use Rattle.le.proofs.Numbers.{puts-fill}
-use Rattle.aspt_build.proofs.Written.{put_next, structure-written}
+use Rattle.le.proofs.Numbers.{puts_fill}
+use Rattle.aspt_build.proofs.Written.{put_next, structure_written}
 use Rattle.le.specs.Field.{field, filled}
 use Rattle.le.specs.Le.{le_bytes, Number, bytes_of}
 use Prim.Native.Nat.{ℕ}
@@ -17,6 +17,6 @@ pub returns : goal.returns
 unfolding bytes_of le_bytes
 returns c = let a = c.args in
     put_next _ _ c.put32.ensures (put_next _ _ c.put64-2.ensures c.put64.ensures)
-    ∙ puts-fill (fields c.front.result c.joined.result a.st.third) a.part.now (sym c.requires)
+    ∙ puts_fill (fields c.front.result c.joined.result a.st.third) a.part.now (sym c.requires)
     ∙ (λ i. bytes_of (fields (c.front.ensures i) (c.joined.ensures i) a.st.third))
-    ∙ structure-written a.st (search rules) (search rules) (search rules)
+    ∙ structure_written a.st (search rules) (search rules) (search rules)

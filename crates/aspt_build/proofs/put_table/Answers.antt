@@ -1,4 +1,4 @@
-use Rattle.aspt_build.proofs.Written.{fields-written}
+use Rattle.aspt_build.proofs.Written.{fields_written}
 use Rattle.aspt_build.specs.Write.{structure_fields, structure_bytes, identity_fields, maker_fields, space_fields, checksum_of, table_bytes}
 use Rattle.aspt.specs.declared.Structure.{Structure}
 use Rattle.le.specs.Le.{put_bytes, bytes_of}
@@ -16,4 +16,4 @@ returns c = let t = c.args.table in
     let maker = c.put_maker.ensures ∙ ap (λ (x : List ℕ). put_bytes (bytes_of (maker_fields t)) x 10) identity in
     let space = c.put_space.ensures ∙ ap (λ (x : List ℕ). put_bytes (bytes_of (space_fields t)) x 36) maker in
     (λ i. put_mid 92 20 (put_mid 72 20 (put_mid 52 20 (space i) ((c.put_structure.ensures ∙ ap part c.own-a.ensures) i)) ((c.put_structure-2.ensures ∙ ap part c.own-b.ensures) i)) ((c.put_structure-3.ensures ∙ ap part c.own-c.ensures) i))
-    ∙ fields-written (checksum_of t) t c.args.buf.now c.requires
+    ∙ fields_written (checksum_of t) t c.args.buf.now c.requires

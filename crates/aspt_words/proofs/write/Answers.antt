@@ -1,4 +1,4 @@
-use Rattle.aspt_words.proofs.AsptWords.{words-pass, words_left, words-fail}
+use Rattle.aspt_words.proofs.AsptWords.{words_pass, words_left, words_fail}
 use Rattle.aspt_words.specs.AsptTable.{table_from, write_words}
 use Rattle.aspt.specs.Calls.{told_check}
 use Rattle.aspt.specs.declared.Table.{Table}
@@ -22,7 +22,7 @@ returns-in-Accepted c = let a = c.args in
     let fit = sym c.table_fits.ensures ∙ c.if-table_fits.true in
     let table = c.table_from.ensures in
     let write = c.write.ensures in
-    let told = ap told_check (sym c.in-Accepted.is) ∙ write.result_value in record { value = ap number_of (told ∙ ap (λ (t : Table). write_of t s) table ∙ words-pass _ s enough fit); buf_after = write.buf_after ∙ ap (λ (t : Table). written_by t s (write_of t s)) table ∙ words_left _ s enough fit }
+    let told = ap told_check (sym c.in-Accepted.is) ∙ write.result_value in record { value = ap number_of (told ∙ ap (λ (t : Table). write_of t s) table ∙ words_pass _ s enough fit); buf_after = write.buf_after ∙ ap (λ (t : Table). written_by t s (write_of t s)) table ∙ words_left _ s enough fit }
 
 pub returns-in-Refused : goal.returns-in-Refused
 returns-in-Refused c = let a = c.args in
@@ -31,8 +31,8 @@ returns-in-Refused c = let a = c.args in
     let fit = sym c.table_fits.ensures ∙ c.if-table_fits.true in
     let table = c.table_from.ensures in
     let write = c.write.ensures in
-    let told = ap told_check (sym c.in-Refused.is) ∙ write.result_value in record { value = ap number_of (told ∙ ap (λ (t : Table). write_of t s) table ∙ words-pass _ s enough fit); buf_after = write.buf_after ∙ ap (λ (t : Table). written_by t s (write_of t s)) table ∙ words_left _ s enough fit }
+    let told = ap told_check (sym c.in-Refused.is) ∙ write.result_value in record { value = ap number_of (told ∙ ap (λ (t : Table). write_of t s) table ∙ words_pass _ s enough fit); buf_after = write.buf_after ∙ ap (λ (t : Table). written_by t s (write_of t s)) table ∙ words_left _ s enough fit }
 
 pub returns-else-table_fits : goal.returns-else-table_fits
 returns-else-table_fits c = let a = c.args in
-    let e = words-fail a.words.now a.buf.now c.if-words-lt22.false (sym c.table_fits.ensures ∙ c.if-table_fits.false) in record { value = ap number_of e; buf_after = ap (written_by (table_from a.words.now) a.buf.now) e }
+    let e = words_fail a.words.now a.buf.now c.if-words-lt22.false (sym c.table_fits.ensures ∙ c.if-table_fits.false) in record { value = ap number_of e; buf_after = ap (written_by (table_from a.words.now) a.buf.now) e }

@@ -1,6 +1,6 @@
 use borrow.Author.Rules.{rules}
-use Rattle.build.proofs.Appended.{append-put}
+use Rattle.build.proofs.Appended.{append_put}
 use Rattle.build.proofs.append.Goals as goal
 
 pub returns : goal.returns
-returns c = search (rules, append-put)
+returns c = search (rules, append_put)

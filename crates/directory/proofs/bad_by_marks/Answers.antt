@@ -6,21 +6,21 @@ use borrow.Author.Rules.{rules}
 use lib.ListN.{length}
 use Rattle.le.specs.Le.{Bytes}
 use Rattle.reply.specs.Some.{some_below}
-use Rattle.reply.proofs.SomeLaws.{some_more, some-none}
-use Rattle.marks.proofs.Marks.{marks-none, marks-step}
+use Rattle.reply.proofs.SomeLaws.{some_more, some_none}
+use Rattle.marks.proofs.Marks.{marks_none, marks_step}
 use Rattle.directory.specs.Looks.{head_at, faulty_head, bad_at}
-use Rattle.directory.proofs.Heads.{mark-tells}
-use Rattle.directory.proofs.Steps.{entry-inside}
+use Rattle.directory.proofs.Heads.{mark_tells}
+use Rattle.directory.proofs.Steps.{entry_inside}
 use Rattle.directory.proofs.bad_by_marks.Goals as goal
 
 pub loop-i-init : goal.loop-i-init
 loop-i-init c = let a = c.args in
-    (omega arith, refl, sym (some-none (bad_at a.kind a.level a.image.now a.at.0)), marks-none 1024 (λ j. head_at a.kind a.image.now a.at.0 j % 65536))
+    (omega arith, refl, sym (some_none (bad_at a.kind a.level a.image.now a.at.0)), marks_none 1024 (λ j. head_at a.kind a.image.now a.at.0 j % 65536))
 
 pub head_at-head-requires : goal.head_at-head-requires
 head_at-head-requires c = let l = c in
     let a = l.args in
-    entry-inside a.kind a.at.0 a.n l.loop-i.i (length a.image.now) l.requires (omega arith)
+    entry_inside a.kind a.at.0 a.n l.loop-i.i (length a.image.now) l.requires (omega arith)
 
 pub loop-i-preserved : goal.loop-i-preserved
 loop-i-preserved c = let m = c in
@@ -37,12 +37,12 @@ loop-i-preserved c = let m = c in
     let pair = ap (λ (x : ℕ). x % 65536) head in
     let w = m.cell-w.result in
     let cell = m.cell-w.ensures.value in
-    let mark = m.marked.ensures ∙ mark-tells a.kind s o bytes 1024 i p w seen pair (omega arith) cell l.loop-i.invariant.3 in
+    let mark = m.marked.ensures ∙ mark_tells a.kind s o bytes 1024 i p w seen pair (omega arith) cell l.loop-i.invariant.3 in
     let fault = m.faulty_head.ensures ∙ ap (faulty_head a.kind a.level) head in (
       omega arith,
       search rules,
       c.either-bad.ensures ∙ ap₂ ◌||◌ (c.either.ensures ∙ ap₂ ◌||◌ fault mark) l.loop-i.invariant.2 ∙ sym (some_more (bad_at a.kind a.level s o) i),
-      marks-step 1024 (λ j. head_at a.kind s o j % 65536) i seen p w c.with_mark.result l.loop-i.invariant.1 l.loop-i.invariant.3 pair (omega arith) cell c.with_mark.ensures,
+      marks_step 1024 (λ j. head_at a.kind s o j % 65536) i seen p w c.with_mark.result l.loop-i.invariant.1 l.loop-i.invariant.3 pair (omega arith) cell c.with_mark.ensures,
     )
 
 pub returns : goal.returns

@@ -1,6 +1,6 @@
 use borrow.Author.Tests.{lt-leb}
 use Rattle.directory.specs.Directory.{directory_by_cookie}
-use Rattle.directory.proofs.Cases.{by_one, by_two, by-neither}
+use Rattle.directory.proofs.Cases.{by_one, by_two, by_neither}
 use Rattle.directory.proofs.directory_by_cookie.Goals as goal
 
 pub returns-then-image-o : goal.returns-then-image-o
@@ -14,4 +14,4 @@ pub returns-then-found-kind-2 : goal.returns-then-found-kind-2
 returns-then-found-kind-2 c = by_two _ _ _ _ _ c.u32_at-found.ensures c.if-image-o.false c.if-found-kind.false c.if-found-kind-2.true _ c.checked-then-found-kind-2.ensures
 
 pub returns : goal.returns
-returns c = by-neither _ _ _ _ _ c.u32_at-found.ensures c.if-image-o.false c.if-found-kind.false c.if-found-kind-2.false
+returns c = by_neither _ _ _ _ _ c.u32_at-found.ensures c.if-image-o.false c.if-found-kind.false c.if-found-kind-2.false

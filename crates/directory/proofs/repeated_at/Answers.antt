@@ -6,7 +6,7 @@ use borrow.Author.Tests.{eq-eqb, ne_eqb}
 use Rattle.reply.specs.Reply.{given, refused, carried_of}
 use Rattle.directory.specs.Directory.{total_at, entry_place, told_directory}
 use Rattle.directory.specs.Repeat.{repeat_in, named_by}
-use Rattle.directory.proofs.Named.{entries-present}
+use Rattle.directory.proofs.Named.{entries_present}
 use Rattle.directory.proofs.repeated_at.Goals as goal
 
 pub repeat_in-requires : goal.repeat_in-requires
@@ -17,7 +17,7 @@ repeat_in-requires c = let k = c in
     let s = a.image.now in
     let carried = carried_of y.in-Refused.why.met in
     let is = sym d.directory_at.ensures ∙ ap told_directory y.in-Refused.is ∙ ap (λ (x : ℕ). refused x carried) k.if-why-eq18.true in
-    subst (λ (n : ℕ). entry_place a.kind a.at.0 n ≤ length s) (sym c.u32_at.ensures) (entries-present a.kind a.limit a.level s a.at.0 carried is)
+    subst (λ (n : ℕ). entry_place a.kind a.at.0 n ≤ length s) (sym c.u32_at.ensures) (entries_present a.kind a.limit a.level s a.at.0 carried is)
 
 pub returns-then-why-eq18 : goal.returns-then-why-eq18
 returns-then-why-eq18 c = let k = c in

@@ -5,12 +5,12 @@ use native.Mathlib.Omega.{arith}
 use borrow.Author.Tests.{le-leb, lt-leb, lt-ltb, le-ltb}
 use Rattle.reply.specs.Reply.{Reply, given, refused, alone}
 use Rattle.reply.specs.declared.Refusal.{Refusal}
-use Rattle.reply.proofs.ReplyLaws.{then-told}
+use Rattle.reply.proofs.ReplyLaws.{then_told}
 use Rattle.window.specs.Window.{window_start, offset_in, within, told_offset}
 use Rattle.window.specs.declared.Offset.{Offset}
 use Rattle.window.specs.declared.OffsetAnswer.{OffsetAnswer}
 use Rattle.window.specs.declared.OffsetAnswer.TheVariants as offset_answer
-use Rattle.window.proofs.Inside.{offset-fact, below-window}
+use Rattle.window.proofs.Inside.{offset_fact, below_window}
 use Rattle.efs.specs.Efs.{pointer_to}
 use Rattle.efs.proofs.pointer_to.Goals as goal
 
@@ -18,12 +18,12 @@ module _ (window : ℕ) (s : List ℕ) (p : ℕ) (q : OffsetAnswer) (asked : tol
   as-address : {x : Reply Offset} (o : Offset) → q ≡ offset_answer.Given o → x ≡ within s o.0 (given o) → x ≡ pointer_to window s p
   unfolding pointer_to
   as-address o is h =
-      let shown = offset-fact window p o (sym asked ∙ ap told_offset is) in
-      simp (le-leb _ _ shown.0) (h ∙ then-told told_offset (λ o. within s o.0 (given o)) is asked)
+      let shown = offset_fact window p o (sym asked ∙ ap told_offset is) in
+      simp (le-leb _ _ shown.0) (h ∙ then_told told_offset (λ o. within s o.0 (given o)) is asked)
 
   module _ (why : Refusal) (is : q ≡ offset_answer.Refused why) (small : p ≤ 0xFFFF_FFFF) where
     below : p < window_start window
-    below = below-window window p why.number alone small (sym asked ∙ ap told_offset is)
+    below = below_window window p why.number alone small (sym asked ∙ ap told_offset is)
 
     as-offset : {x : Reply Offset} → p < window → x ≡ within s p (given (record { 0 = p })) → x ≡ pointer_to window s p
     unfolding pointer_to

@@ -6,7 +6,7 @@ use Rattle.reply.specs.Reply.{given}
 use Rattle.entries.specs.Part.{part_in, bytes_of, begin_of, told_part}
 use Rattle.window.specs.Length.{sized}
 use Rattle.window.proofs.Length.{sized_past}
-use Rattle.entries.proofs.Parts.{part-inside}
+use Rattle.entries.proofs.Parts.{part_inside}
 use Rattle.entries.proofs.bytes_in.Goals as goal
 use Rattle.entries.proofs.bytes_in.Goals.{After-struct_known-in-Given-1}
 
@@ -17,7 +17,7 @@ is-given : (c : After-struct_known-in-Given-1) → let a = c.args in
 is-given c = sym c.part_in.ensures ∙ ap told_part c.in-Given.is
 
 inside : (c : After-struct_known-in-Given-1) → let p = c.in-Given.p in p.place.0 + p.length ≤ length c.args.image.now
-inside c = let a = c.args in part-inside a.kind a.window a.image.now a.d a.i c.in-Given.p (sized_past a.image.now _ (is-given c)).1
+inside c = let a = c.args in part_inside a.kind a.window a.image.now a.d a.i c.in-Given.p (sized_past a.image.now _ (is-given c)).1
 
 pub overflow_add-end : goal.overflow_add-end
 overflow_add-end c = omega (arith, inside (goal.at.overflow_add-end c).After-struct_known-in-Given-1)

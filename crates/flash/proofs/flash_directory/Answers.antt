@@ -2,7 +2,7 @@ use mathlib.Core.Path.{sym, ◌∙◌}
 use borrow.Author.Rules.{rules}
 use borrow.Author.Tests.{le-leb, lt-leb}
 use Rattle.reply.proofs.ReplyLaws.{passed, failed}
-use Rattle.window.proofs.Length.{sized_on, sized-off}
+use Rattle.window.proofs.Length.{sized_on, sized_off}
 use Rattle.flash.specs.Flash.{level_of, flash_directory}
 use Rattle.flash.proofs.flash_directory.Goals as goal
 
@@ -30,5 +30,5 @@ unfolding flash_directory
 returns-else-length_allowed c = let l = c in
     let t = l in
     let a = t.args in
-    sized-off a.image.now (level_of a.rules a.level a.image.now) _ l.length_allowed.ensures c.if-length_allowed.false
+    sized_off a.image.now (level_of a.rules a.level a.image.now) _ l.length_allowed.ensures c.if-length_allowed.false
     ∙ sym (passed _ _ _ _ (le-leb _ _ t.if-level-lt1.false) ∙ passed _ _ _ _ (le-leb _ _ t.if-level-gt2.false))

@@ -2,11 +2,11 @@ use mathlib.Core.Path.{◌≡◌, refl, ap, ◌∙◌}
 use Prim.Native.Nat.{ℕ, ◌*◌}
 use native.Mathlib.Omega.{arith}
 use Rattle.le.specs.Le.{Bytes}
-use Rattle.le.proofs.Part.{le-own}
+use Rattle.le.proofs.Part.{le_own}
 use Rattle.fletcher.specs.Fletcher.{words_at}
 use Rattle.fletcher.specs.Fold.{sum_after, weighted_after}
-use Rattle.fletcher.proofs.Lanes.{lanes_start, lanes-more, room, sum_is, weighted-is, less-most, high_small}
-use Rattle.fletcher.proofs.Run.{run-safe}
+use Rattle.fletcher.proofs.Lanes.{lanes_start, lanes_more, room, sum_is, weighted_is, less_most, high_small}
+use Rattle.fletcher.proofs.Run.{run_safe}
 use Rattle.fletcher.proofs.add_fours.Goals as goal
 
 pub loop-k-init : goal.loop-k-init
@@ -31,7 +31,7 @@ loop-k-preserved c = let e = c in
     let a = l.args in
     let bytes : Bytes a.s.now = λ i. (l.shared_slice_known-1.given i).fits in (
       omega arith,
-      λ u. lanes-more _ _ _ _ _ _ _ _ _ (l.loop-k.invariant.1 tt) bytes _ (e.u64_at-four.ensures ∙ le-own 8 _ _ _ refl) (omega arith) _ _ e.alternate-odd.ensures c.alternate-even.ensures,
+      λ u. lanes_more _ _ _ _ _ _ _ _ _ (l.loop-k.invariant.1 tt) bytes _ (e.u64_at-four.ensures ∙ le_own 8 _ _ _ refl) (omega arith) _ _ e.alternate-odd.ensures c.alternate-even.ensures,
     )
 
 pub sums_of-requires : goal.sums_of-requires
@@ -42,7 +42,7 @@ sums_of-requires c = let l = c in
     let low = c.across.ensures in
     let high = c.across-2.ensures in
     let less = c.excess.ensures in
-    let safe = run-safe a.s.now bytes a.t.sum a.t.weighted (4 * l.loop-k.k) (a.from * 2) (omega arith) (omega arith) (omega arith) in record { low_bound = (rw (sum_is _ _ _ _ _ _ _ _ _ f _ _ _ low high less) safe.0, high_small _ _ _ _ _ _ _ _ _ f _ _ _ low high less); less_bound = less-most _ _ _ _ _ _ _ _ _ f _ _ _ low high less; less_bound_2 = rw (weighted-is _ _ _ _ _ _ _ _ _ f _ _ _ low high less) safe.1 }
+    let safe = run_safe a.s.now bytes a.t.sum a.t.weighted (4 * l.loop-k.k) (a.from * 2) (omega arith) (omega arith) (omega arith) in record { low_bound = (rw (sum_is _ _ _ _ _ _ _ _ _ f _ _ _ low high less) safe.0, high_small _ _ _ _ _ _ _ _ _ f _ _ _ low high less); less_bound = less_most _ _ _ _ _ _ _ _ _ f _ _ _ low high less; less_bound_2 = rw (weighted_is _ _ _ _ _ _ _ _ _ f _ _ _ low high less) safe.1 }
 
 pub returns : goal.returns
 returns c = let e = c in
@@ -55,5 +55,5 @@ returns c = let e = c in
     let less = e.excess.ensures in
     let all : l.loop-k.k ≡ a.n = omega arith in (
       c.sums_of.ensures.0 ∙ sum_is _ _ _ _ _ _ _ _ _ f _ _ _ low high less ∙ ap (λ (j : ℕ). sum_after a.t.sum (words_at (4 * j) s (a.from * 2))) all,
-      c.sums_of.ensures.1 ∙ weighted-is _ _ _ _ _ _ _ _ _ f _ _ _ low high less ∙ ap (λ (j : ℕ). weighted_after a.t.sum a.t.weighted (words_at (4 * j) s (a.from * 2))) all,
+      c.sums_of.ensures.1 ∙ weighted_is _ _ _ _ _ _ _ _ _ f _ _ _ low high less ∙ ap (λ (j : ℕ). weighted_after a.t.sum a.t.weighted (words_at (4 * j) s (a.from * 2))) all,
     )

@@ -2,7 +2,7 @@ use Prim.Native.Nat.{ℕ, ◌+◌, ◌*◌, ◌%◌, ◌≤◌}
 use native.Mathlib.Nat.{mul-le-mul}
 use native.Mathlib.Omega.{arith}
 use Rattle.fletcher.specs.Join.{sum_in, weighted_in, joined_of}
-use Rattle.fletcher.proofs.Join.{field-folded}
+use Rattle.fletcher.proofs.Join.{field_folded}
 use Rattle.fletcher.proofs.joined.Goals as goal
 
 -- 65,535 times 65,535 and two halves more are just what 32 bits hold
@@ -23,4 +23,4 @@ pub returns : goal.returns
 unfolding joined_of
 returns c = let f = c.folded.ensures in
     let a = c.args in
-    field-folded (weighted_in a.first + a.n * sum_in a.first + weighted_in a.second) (sum_in a.first + sum_in a.second) _ _ _ f.1 f.0 c.field.ensures
+    field_folded (weighted_in a.first + a.n * sum_in a.first + weighted_in a.second) (sum_in a.first + sum_in a.second) _ _ _ f.1 f.0 c.field.ensures

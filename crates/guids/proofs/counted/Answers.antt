@@ -4,7 +4,7 @@ use native.Mathlib.Nat.{add-zero}
 use native.Mathlib.Omega.{arith}
 use Rattle.reply.specs.Reply.{given}
 use Rattle.guids.specs.Table.{length_before, entries_before, told_length}
-use Rattle.guids.proofs.Walk.{length-facts, seen_all, seen-refused, seen_one, count_from, count-start}
+use Rattle.guids.proofs.Walk.{length_facts, seen_all, seen_refused, seen_one, count_from, count_start}
 use Rattle.guids.proofs.counted.Goals as goal
 use Rattle.guids.proofs.counted.Goals.{In-Given}
 
@@ -15,12 +15,12 @@ length-is : (c : In-Given) → let l = c.loop-left in
 length-is c = sym c.length_before.ensures ∙ ap told_length c.in-Given.is
 
 fits : (c : In-Given) → (18 ≤ c.in-Given.length) × (c.in-Given.length ≤ c.loop-left.left)
-fits c = let f = length-facts _ _ _ _ (length-is c) in (f.1, f.2)
+fits c = let f = length_facts _ _ _ _ (length-is c) in (f.1, f.2)
 
 pub loop-left-init : goal.loop-left-init
 loop-left-init c = let a = c.args in
     let p = c.requires in
-    (p.0, p.1, omega arith, count-start (entries_before a.image.now a.from a.bytes))
+    (p.0, p.1, omega arith, count_start (entries_before a.image.now a.from a.bytes))
 
 pub overflow_sub-end : goal.overflow_sub-end
 overflow_sub-end c = omega (arith, fits (goal.at.overflow_sub-end c).In-Given)
@@ -40,7 +40,7 @@ loop-left-preserved c = let l = c.loop-left in
 
 pub returns-in-Refused : goal.returns-in-Refused
 returns-in-Refused c = let l = c.loop-left in
-    seen-refused _ l.end l.left (count_from l.count) _ l.invariant.3 (omega arith) _ _ (sym c.length_before.ensures ∙ ap told_length c.in-Refused.is)
+    seen_refused _ l.end l.left (count_from l.count) _ l.invariant.3 (omega arith) _ _ (sym c.length_before.ensures ∙ ap told_length c.in-Refused.is)
 
 pub returns : goal.returns
 returns c = let l = c.loop-left in

@@ -3,7 +3,7 @@ use Prim.Native.Nat.{◌+◌, ◌≤◌}
 use native.Mathlib.Omega.{arith}
 use Rattle.reply.specs.Reply.{given}
 use Rattle.guids.specs.Table.{length_before, entry_before, entries_under, told_length}
-use Rattle.guids.proofs.Walk.{header-facts, length-facts, seen_all, seen-refused, seen_one, find_from, find-start, find-end, find-here, find-behind}
+use Rattle.guids.proofs.Walk.{header_facts, length_facts, seen_all, seen_refused, seen_one, find_from, find_start, find_end, find_here, find_behind}
 use Rattle.guids.proofs.find_under.Goals as goal
 use Rattle.guids.proofs.find_under.Goals.{In-Given}
 
@@ -14,18 +14,18 @@ length-is : (c : In-Given) → let l = c.loop-left in
 length-is c = sym c.length_before.ensures ∙ ap told_length c.in-Given.is
 
 fits : (c : In-Given) → (18 ≤ c.in-Given.size) × (c.in-Given.size ≤ c.loop-left.left)
-fits c = let f = length-facts _ _ _ _ (length-is c) in (f.1, f.2)
+fits c = let f = length_facts _ _ _ _ (length-is c) in (f.1, f.2)
 
 pub overflow_sub-end : goal.overflow_sub-end
-overflow_sub-end c = omega (arith, header-facts _ _ c.requires)
+overflow_sub-end c = omega (arith, header_facts _ _ c.requires)
 
 pub overflow_sub-left : goal.overflow_sub-left
-overflow_sub-left c = omega (arith, header-facts _ _ c.requires)
+overflow_sub-left c = omega (arith, header_facts _ _ c.requires)
 
 pub loop-left-init : goal.loop-left-init
 loop-left-init c = let a = c.args in
-    let f = header-facts a.image.now a.total c.requires in
-    (omega arith, omega arith, omega arith, find-start a.guid (entries_under a.image.now a.total))
+    let f = header_facts a.image.now a.total c.requires in
+    (omega arith, omega arith, omega arith, find_start a.guid (entries_under a.image.now a.total))
 
 pub overflow_sub-end-in-Given : goal.overflow_sub-end-in-Given
 overflow_sub-end-in-Given c = omega (arith, fits (goal.at.overflow_sub-end-in-Given c).In-Given)
@@ -55,7 +55,7 @@ returns-then-has_guid c = let g = c in
     let x = entry_before a.image.now l.end g.in-Given.size in
     c.checked_match.ensures
     ∙ seen_one _ l.end l.left (find_from a.guid l.before) _ l.invariant.3 (omega arith) _ (length-is (goal.at.returns-then-has_guid c).In-Given) (λ _. given (record { place = x.place; length = x.length; tested = l.before + 1 }))
-    (λ es. find-here a.guid l.before x es (sym c.has_guid.ensures ∙ c.if-has_guid.true))
+    (λ es. find_here a.guid l.before x es (sym c.has_guid.ensures ∙ c.if-has_guid.true))
 
 pub overflow_sub-end-in-Given-2 : goal.overflow_sub-end-in-Given-2
 overflow_sub-end-in-Given-2 c = omega (arith, fits (goal.at.overflow_sub-end-in-Given-2 c).In-Given)
@@ -79,14 +79,14 @@ loop-left-preserved c = let g = c in
       omega arith,
       omega arith,
       seen_one _ l.end l.left (find_from a.guid l.before) _ l.invariant.3 (omega arith) _ (length-is (goal.at.loop-left-preserved c).In-Given) (find_from a.guid (l.before + 1))
-          (λ es. find-behind a.guid l.before x es (sym c.has_guid.ensures ∙ c.if-has_guid.false)),
+          (λ es. find_behind a.guid l.before x es (sym c.has_guid.ensures ∙ c.if-has_guid.false)),
     )
 
 pub returns-in-Refused : goal.returns-in-Refused
 returns-in-Refused c = let l = c.loop-left in
-    seen-refused _ l.end l.left (find_from c.args.guid l.before) _ l.invariant.3 (omega arith) _ _ (sym c.length_before.ensures ∙ ap told_length c.in-Refused.is)
+    seen_refused _ l.end l.left (find_from c.args.guid l.before) _ l.invariant.3 (omega arith) _ _ (sym c.length_before.ensures ∙ ap told_length c.in-Refused.is)
 
 pub returns : goal.returns
 returns c = let l = c.loop-left in
     let g = c.args.guid in
-    find-end g l.before ∙ seen_all _ l.end l.left (find_from g l.before) _ l.invariant.3 (omega arith)
+    find_end g l.before ∙ seen_all _ l.end l.left (find_from g l.before) _ l.invariant.3 (omega arith)

@@ -4,14 +4,14 @@ use native.Mathlib.Omega.{arith}
 use lib.ListN.{length}
 use borrow.Author.Tests.{le-leb, lt-leb}
 use Rattle.guids.specs.Table.{guid_at, same_guid, footer, footer_at, total_at, header_of}
-use Rattle.guids.proofs.Walk.{footer-is}
+use Rattle.guids.proofs.Walk.{footer_is}
 use Rattle.guids.proofs.header.Goals as goal
 use Rattle.guids.proofs.header.Goals.{After-has_guid}
 
 -- the test of the footer, as the definition has it
 
 foot : (c : After-has_guid) → let s = c.args.image.now in c.has_guid.result ≡ same_guid (guid_at s (footer_at s)) footer
-foot c = c.has_guid.ensures ∙ ap (same_guid _) footer-is
+foot c = c.has_guid.ensures ∙ ap (same_guid _) footer_is
 
 pub returns-then-image-lt-SHORTEST : goal.returns-then-image-lt-SHORTEST
 unfolding header_of

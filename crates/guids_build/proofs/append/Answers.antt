@@ -4,12 +4,12 @@ use Prim.Native.Nat.{ℕ, ◌+◌}
 use native.Mathlib.Omega.{arith}
 use lib.ListN.{length}
 use Rattle.le.specs.Le.{put_bytes}
-use Rattle.le.proofs.Put.{put-join}
-use Rattle.le.proofs.Back.{put-long}
+use Rattle.le.proofs.Put.{put_join}
+use Rattle.le.proofs.Back.{put_long}
 use Rattle.guids.specs.Table.{end_bytes}
-use Rattle.guids.proofs.Here.{length-end}
+use Rattle.guids.proofs.Here.{length_end}
 use Rattle.guids_build.specs.Write.{begins_at, with_total}
-use Rattle.guids_build.proofs.Writing.{Room, room-facts}
+use Rattle.guids_build.proofs.Writing.{Room, room_facts}
 use Rattle.guids_build.proofs.append.Goals as goal
 use Rattle.guids_build.proofs.append.Goals.{After-put_end-arg-1, Start}
 
@@ -26,10 +26,10 @@ long : (c : After-put_end-arg-1) → length c.put_bytes.new.buf ≡ length c.arg
 long c =
     let a = c.args in
     let s = a.buf.now in
-    ap length (written c) ∙ put-long a.bytes.now (with_total s a.total) _ ∙ put-long _ s _
+    ap length (written c) ∙ put_long a.bytes.now (with_total s a.total) _ ∙ put_long _ s _
 
 room : (c : Start) → Room c.args.buf.now c.args.bytes.now c.args.total
-room c = room-facts _ _ _ c.requires
+room c = room_facts _ _ _ c.requires
 
 pub overflow_sub-at : goal.overflow_sub-at
 overflow_sub-at c = omega (arith, (room (goal.at.overflow_sub-at c).Start).good.header)
@@ -57,7 +57,7 @@ returns c = let f = c in
     let s = a.buf.now in
     let n = length a.bytes.now + 18 in
     let r = room (goal.at.returns c).Start in
-    let l : length (with_total s a.total) ≡ length s = put-long _ s _ in
+    let l : length (with_total s a.total) ≡ length s = put_long _ s _ in
     c.put_end.ensures
     ∙ ap (λ (x : List ℕ). put_bytes (end_bytes n a.guid) x (begins_at s a.total + length a.bytes.now)) (written (goal.at.returns c).After-put_end-arg-1)
-    ∙ put-join a.bytes.now (end_bytes n a.guid) (with_total s a.total) (begins_at s a.total) (omega (arith, length-end n a.guid, r.new, r.fits))
+    ∙ put_join a.bytes.now (end_bytes n a.guid) (with_total s a.total) (begins_at s a.total) (omega (arith, length_end n a.guid, r.new, r.fits))

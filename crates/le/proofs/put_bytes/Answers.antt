@@ -5,12 +5,12 @@ use mathlib.Core.List.{List}
 use Prim.Native.Nat.{ℕ}
 use lib.ListN.{length, set, get_or, length-set}
 use lib.Seq.{paste-zero}
-use Rattle.le.proofs.Put.{room-inside, copy_step, copy-end, copy-refused}
+use Rattle.le.proofs.Put.{room_inside, copy_step, copy_end, copy_refused}
 use Rattle.le.proofs.put_bytes.Goals as goal
 
 pub loop-i-init : goal.loop-i-init
 loop-i-init c = let a = c.args in
-    (omega arith, room-inside a.at (length a.bytes.now) (length a.buf.now) _ c.room.ensures c.if-room.true, refl, paste-zero a.buf.now a.at a.bytes.now)
+    (omega arith, room_inside a.at (length a.bytes.now) (length a.buf.now) _ c.room.ensures c.if-room.true, refl, paste-zero a.buf.now a.at a.bytes.now)
 
 pub overflow_add-buf : goal.overflow_add-buf
 overflow_add-buf c = omega arith
@@ -40,8 +40,8 @@ shape_of-buf c = c.loop-i.invariant.2
 pub returns-after-loop-i : goal.returns-after-loop-i
 returns-after-loop-i c = let l = c.loop-i in
     let a = c.args in
-    l.invariant.3 ∙ copy-end a.bytes.now a.buf.now a.at l.i l.invariant.1 (omega arith)
+    l.invariant.3 ∙ copy_end a.bytes.now a.buf.now a.at l.i l.invariant.1 (omega arith)
 
 pub returns-else-room : goal.returns-else-room
 returns-else-room c = let a = c.args in
-    copy-refused a.bytes.now a.buf.now a.at _ c.room.ensures c.if-room.false
+    copy_refused a.bytes.now a.buf.now a.at _ c.room.ensures c.if-room.false

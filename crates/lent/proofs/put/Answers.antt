@@ -1,11 +1,11 @@
 use borrow.Author.Rules.{rules}
 use native.Mathlib.Omega.{arith}
 use mathlib.Core.Path.{refl}
-use Rattle.lent.proofs.Laws.{number-12, words-12, number_fits, copy_step, copy-end}
+use Rattle.lent.proofs.Laws.{number_12, words_12, number_fits, copy_step, copy_end}
 use Rattle.lent.proofs.put.Goals as goal
 
 pub returns-then-words-values : goal.returns-then-words-values
-returns-then-words-values c = record { value = search number-12; words_after = search words-12 }
+returns-then-words-values c = record { value = search number_12; words_after = search words_12 }
 
 pub loop-i-init : goal.loop-i-init
 loop-i-init c = (omega arith, omega arith, refl, refl)
@@ -17,4 +17,4 @@ pub loop-i-preserved : goal.loop-i-preserved
 loop-i-preserved c = (omega arith, omega arith, search rules, search (rules, copy_step))
 
 pub returns : goal.returns
-returns c = record { value = search (rules, number_fits); words_after = search (rules, copy-end) }
+returns c = record { value = search (rules, number_fits); words_after = search (rules, copy_end) }

@@ -1,7 +1,7 @@
 use borrow.Author.Rules.{rules}
 use native.Mathlib.Omega.{arith}
 use mathlib.Core.Path.{refl}
-use Rattle.mailbox.proofs.ConsistentLaws.{fit-step, fit-stop, fit-end}
+use Rattle.mailbox.proofs.ConsistentLaws.{fit_step, fit_stop, fit_end}
 use Rattle.mailbox.proofs.posts_fit.Goals as goal
 
 pub loop-i-init : goal.loop-i-init
@@ -11,10 +11,10 @@ pub loop-i-smaller : goal.loop-i-smaller
 loop-i-smaller c = omega arith
 
 pub loop-i-preserved : goal.loop-i-preserved
-loop-i-preserved c = (omega arith, search (rules, fit-step))
+loop-i-preserved c = (omega arith, search (rules, fit_step))
 
 pub returns-else-fits : goal.returns-else-fits
-returns-else-fits c = search (rules, fit-stop)
+returns-else-fits c = search (rules, fit_stop)
 
 pub returns : goal.returns
-returns c = search (rules, fit-end)
+returns c = search (rules, fit_end)

@@ -1,6 +1,6 @@
 use borrow.Author.Rules.{rules}
 use native.Mathlib.Omega.{arith}
-use Rattle.mailbox.proofs.ConsistentLaws.{times_none, times-step, times-end}
+use Rattle.mailbox.proofs.ConsistentLaws.{times_none, times_step, times_end}
 use Rattle.mailbox.proofs.times_in.Goals as goal
 
 pub loop-i-init : goal.loop-i-init
@@ -13,7 +13,7 @@ pub loop-i-smaller : goal.loop-i-smaller
 loop-i-smaller c = omega arith
 
 pub loop-i-preserved : goal.loop-i-preserved
-loop-i-preserved c = (omega arith, omega arith, search (rules, times-step))
+loop-i-preserved c = (omega arith, omega arith, search (rules, times_step))
 
 pub returns : goal.returns
-returns c = record { value = search (rules, times-end); upper_bound = omega arith }
+returns c = record { value = search (rules, times_end); upper_bound = omega arith }

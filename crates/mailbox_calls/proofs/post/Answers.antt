@@ -1,4 +1,4 @@
-use Rattle.mailbox_calls.proofs.CallLaws.{post-calls, good-is}
+use Rattle.mailbox_calls.proofs.CallLaws.{post-calls, good_is}
 use borrow.Author.Rules.{rules}
 use Rattle.mailbox_calls.proofs.post.Goals as goal
 
@@ -9,7 +9,7 @@ pub returns-then-command-gt1023 : goal.returns-then-command-gt1023
 returns-then-command-gt1023 c = search post-calls
 
 pub posted-requires : goal.posted-requires
-posted-requires c = search (rules, good-is)
+posted-requires c = search (rules, good_is)
 
 pub returns-else-command-gt1023 : goal.returns-else-command-gt1023
 returns-else-command-gt1023 c = search post-calls

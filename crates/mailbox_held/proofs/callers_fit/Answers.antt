@@ -2,7 +2,7 @@ use borrow.Author.Rules.{rules}
 use native.Mathlib.Omega.{arith}
 use mathlib.Core.Path.{refl}
 use Rattle.mailbox.proofs.ConsistentLaws.{all_end}
-use Rattle.mailbox_held.proofs.FitLaws.{callers-step, callers-stop}
+use Rattle.mailbox_held.proofs.FitLaws.{callers_step, callers_stop}
 use Rattle.mailbox_held.proofs.callers_fit.Goals as goal
 
 pub loop-caller-init : goal.loop-caller-init
@@ -11,7 +11,7 @@ loop-caller-init c = (omega arith, refl)
 pub returns-then-times_in-holds : goal.returns-then-times_in-holds
 returns-then-times_in-holds c = let a = c.args in
     let l = c.loop-caller in
-    callers-stop
+    callers_stop
     a.words.now
     a.n
     a.register
@@ -36,7 +36,7 @@ pub loop-caller-preserved : goal.loop-caller-preserved
 loop-caller-preserved c = let a = c.args in
     let l = c.loop-caller in (
       omega arith,
-      callers-step
+      callers_step
           a.words.now
           a.n
           a.register

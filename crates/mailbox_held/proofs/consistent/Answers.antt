@@ -1,11 +1,11 @@
-use Rattle.mailbox_held.proofs.FitLaws.{not-few, not_line, not-held, all-rules}
+use Rattle.mailbox_held.proofs.FitLaws.{not_few, not_line, not_held, all_rules}
 use Rattle.mailbox_held.proofs.consistent.Goals as goal
 
 pub returns-then-words-gt8 : goal.returns-then-words-gt8
-returns-then-words-gt8 c = not-few c.args.words.now c.if-words-gt8.true
+returns-then-words-gt8 c = not_few c.args.words.now c.if-words-gt8.true
 
 pub returns-then-fits : goal.returns-then-fits
-returns-then-fits c = all-rules
+returns-then-fits c = all_rules
     c.args.words.now
     c.if-words-gt8.false
     c.posts_fit.result
@@ -20,7 +20,7 @@ returns-then-fits c = all-rules
     c.callers_fit.ensures
 
 pub returns-else-fits : goal.returns-else-fits
-returns-else-fits c = not-held
+returns-else-fits c = not_held
     c.args.words.now
     c.if-words-gt8.false
     c.posts_fit.result

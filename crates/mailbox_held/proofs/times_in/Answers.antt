@@ -1,7 +1,7 @@
 use borrow.Author.Rules.{rules}
 use Prim.Native.Nat.{◌-◌}
 use native.Mathlib.Omega.{arith}
-use Rattle.mailbox.proofs.ConsistentLaws.{times_none, times-end}
+use Rattle.mailbox.proofs.ConsistentLaws.{times_none, times_end}
 use Rattle.mailbox_held.proofs.FitLaws.{line_step}
 use Rattle.mailbox_held.proofs.times_in.Goals as goal
 
@@ -35,4 +35,4 @@ loop-i-preserved c = let a = c.args in
     )
 
 pub returns : goal.returns
-returns c = record { value = search (rules, times-end); upper_bound = omega arith }
+returns c = record { value = search (rules, times_end); upper_bound = omega arith }

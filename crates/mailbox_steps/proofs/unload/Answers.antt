@@ -1,9 +1,9 @@
-use Rattle.mailbox_calls.proofs.CallLaws.{unload-calls, good-is}
+use Rattle.mailbox_calls.proofs.CallLaws.{unload-calls, good_is}
 use borrow.Author.Rules.{rules}
 use Rattle.mailbox_steps.proofs.unload.Goals as goal
 
 pub unloaded-requires : goal.unloaded-requires
-unloaded-requires c = search (rules, good-is)
+unloaded-requires c = search (rules, good_is)
 
 pub returns-then-consistent : goal.returns-then-consistent
 returns-then-consistent c = search unload-calls

@@ -1,10 +1,10 @@
-use Rattle.mailbox.proofs.Facts.{response-low}
+use Rattle.mailbox.proofs.Facts.{response_low}
 use Rattle.mailbox_calls.proofs.CallLaws.{unload-cases}
 use borrow.Author.Rules.{rules}
 use Rattle.mailbox_steps.proofs.unloaded.Goals as goal
 
 pub bounds-places-at : goal.bounds-places-at
-bounds-places-at c = search (rules, response-low)
+bounds-places-at c = search (rules, response_low)
 
 pub returns-in-Idle : goal.returns-in-Idle
 returns-in-Idle c = search unload-cases

@@ -1,6 +1,6 @@
 use native.Mathlib.Omega.{arith}
 use lib.ListN.{length-set}
-use Rattle.mailbox_steps_words.proofs.MovedLaws.{hand-over-words}
+use Rattle.mailbox_steps_words.proofs.MovedLaws.{hand_over_words}
 use Rattle.mailbox_steps_words.proofs.hand_over.Goals as goal
 
 pub bounds-words-1 : goal.bounds-words-1
@@ -15,4 +15,4 @@ bounds-words-caller c = simp length-set (omega arith)
 pub returns : goal.returns
 returns c = let s = c in
     let a = s.args in
-    hand-over-words a.words.now s.requires.0 a.caller a.word _ s.requires.2 c.place_word.ensures
+    hand_over_words a.words.now s.requires.0 a.caller a.word _ s.requires.2 c.place_word.ensures

@@ -2,7 +2,7 @@ use mathlib.Core.Path.{refl, sym, ◌∙◌}
 use mathlib.Core.Bool.{true, false}
 use Rattle.mailbox_calls.specs.Calls.{unloaded_from, unload_of}
 use Rattle.mailbox_layout.specs.Layout.{unpack_of}
-use Rattle.mailbox_words.proofs.CallLaws.{served, served-long, in_words, same-words, caller-low, step-5, step-12, step-done}
+use Rattle.mailbox_words.proofs.CallLaws.{served, served_long, in_words, same_words, caller_low, step_5, step_12, step_done}
 use Rattle.mailbox_steps_words.proofs.unload.Goals as goal
 
 pub returns-then-values-eq0 : goal.returns-then-values-eq0
@@ -11,7 +11,7 @@ returns-then-values-eq0 c = let i = c in
     let s = i in
     let ws = s.args.words.now in
     let vs = s.args.values.now in
-    let both = step-12 unloaded_from ws vs i.serves.result i.serves.ensures i.if-serves.true c.if-values-eq0.true in
+    let both = step_12 unloaded_from ws vs i.serves.result i.serves.ensures i.if-serves.true c.if-values-eq0.true in
     record { value = both.0; words_after = both.1.0; values_after = both.1.1 }
 
 pub bounds-words-0 : goal.bounds-words-0
@@ -33,7 +33,7 @@ pub hand_over-requires : goal.hand_over-requires
 hand_over-requires c = let p = c in
     let i = p in
     let ws = i.args.words.now in
-    ((served ws i.serves.result i.serves.ensures i.if-serves.true).0, served-long ws i.serves.result i.serves.ensures i.if-serves.true, caller-low ws i.serves.result i.serves.ensures i.if-serves.true _ _ (sym c.in-Response.is ∙ p.phase_from.ensures))
+    ((served ws i.serves.result i.serves.ensures i.if-serves.true).0, served_long ws i.serves.result i.serves.ensures i.if-serves.true, caller_low ws i.serves.result i.serves.ensures i.if-serves.true _ _ (sym c.in-Response.is ∙ p.phase_from.ensures))
 
 pub returns-in-Idle : goal.returns-in-Idle
 unfolding unload_of
@@ -42,7 +42,7 @@ returns-in-Idle c = let p = c in
     let s = i in
     let ws = s.args.words.now in
     let vs = s.args.values.now in
-    let both = step-done unloaded_from ws vs i.serves.result i.serves.ensures i.if-serves.true p.if-values-eq0.false _ (sym c.in-Idle.is ∙ p.phase_from.ensures) (unpack_of ws) false _ refl (same-words ws i.serves.result i.serves.ensures i.if-serves.true) in
+    let both = step_done unloaded_from ws vs i.serves.result i.serves.ensures i.if-serves.true p.if-values-eq0.false _ (sym c.in-Idle.is ∙ p.phase_from.ensures) (unpack_of ws) false _ refl (same_words ws i.serves.result i.serves.ensures i.if-serves.true) in
     record { value = both.0; words_after = both.1.0; values_after = both.1.1 }
 
 pub returns-in-Command : goal.returns-in-Command
@@ -52,7 +52,7 @@ returns-in-Command c = let p = c in
     let s = i in
     let ws = s.args.words.now in
     let vs = s.args.values.now in
-    let both = step-done unloaded_from ws vs i.serves.result i.serves.ensures i.if-serves.true p.if-values-eq0.false _ (sym c.in-Command.is ∙ p.phase_from.ensures) (unpack_of ws) false _ refl (same-words ws i.serves.result i.serves.ensures i.if-serves.true) in
+    let both = step_done unloaded_from ws vs i.serves.result i.serves.ensures i.if-serves.true p.if-values-eq0.false _ (sym c.in-Command.is ∙ p.phase_from.ensures) (unpack_of ws) false _ refl (same_words ws i.serves.result i.serves.ensures i.if-serves.true) in
     record { value = both.0; words_after = both.1.0; values_after = both.1.1 }
 
 pub returns-in-Response : goal.returns-in-Response
@@ -62,11 +62,11 @@ returns-in-Response c = let p = c in
     let s = i in
     let ws = s.args.words.now in
     let vs = s.args.values.now in
-    let both = step-done unloaded_from ws vs i.serves.result i.serves.ensures i.if-serves.true p.if-values-eq0.false _ (sym c.in-Response.is ∙ p.phase_from.ensures) _ true _ refl c.hand_over.ensures in
+    let both = step_done unloaded_from ws vs i.serves.result i.serves.ensures i.if-serves.true p.if-values-eq0.false _ (sym c.in-Response.is ∙ p.phase_from.ensures) _ true _ refl c.hand_over.ensures in
     record { value = both.0; words_after = both.1.0; values_after = both.1.1 }
 
 pub returns-else-serves : goal.returns-else-serves
 unfolding unload_of
 returns-else-serves c = let s = c in
-    let both = step-5 unloaded_from s.args.words.now s.args.values.now c.serves.result c.serves.ensures c.if-serves.false in
+    let both = step_5 unloaded_from s.args.words.now s.args.values.now c.serves.result c.serves.ensures c.if-serves.false in
     record { value = both.0; words_after = both.1.0; values_after = both.1.1 }

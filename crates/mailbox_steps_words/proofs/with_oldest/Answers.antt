@@ -1,22 +1,22 @@
 use mathlib.Core.Path.{refl, ◌∙◌}
-use Rattle.mailbox_steps_words.proofs.MovedLaws.{in-first, in-second, in-begun, in_moved, less_one, advance-words}
+use Rattle.mailbox_steps_words.proofs.MovedLaws.{in_first, in_second, in_begun, in_moved, less_one, advance_words}
 use Rattle.mailbox_steps_words.proofs.with_oldest.Goals as goal
 
 pub bounds-words-1 : goal.bounds-words-1
 bounds-words-1 c = let s = c in
-    in-first 0 0 s.args.words.now s.requires.1 1 refl
+    in_first 0 0 s.args.words.now s.requires.1 1 refl
 
 pub bounds-words-2 : goal.bounds-words-2
 bounds-words-2 c = let w = c in
     let p = w in
     let s = p in
-    in-second p.post_from-first.result.caller w.word.result s.args.words.now s.requires.1 2 refl
+    in_second p.post_from-first.result.caller w.word.result s.args.words.now s.requires.1 2 refl
 
 pub bounds-words-3 : goal.bounds-words-3
 bounds-words-3 c = let w = c in
     let p = w in
     let s = p in
-    in-begun p.post_from-first.result.caller w.word.result s.args.words.now s.requires.1 3 refl
+    in_begun p.post_from-first.result.caller w.word.result s.args.words.now s.requires.1 3 refl
 
 pub overflow_sub-words : goal.overflow_sub-words
 overflow_sub-words c = let w = c in
@@ -28,7 +28,7 @@ pub bounds-words-3-2 : goal.bounds-words-3-2
 bounds-words-3-2 c = let w = c in
     let p = w in
     let s = p in
-    in-begun p.post_from-first.result.caller w.word.result s.args.words.now s.requires.1 3 refl
+    in_begun p.post_from-first.result.caller w.word.result s.args.words.now s.requires.1 3 refl
 
 pub bounds-words-9 : goal.bounds-words-9
 bounds-words-9 c = let w = c in
@@ -70,4 +70,4 @@ pub returns : goal.returns
 returns c = let w = c in
     let p = w in
     let s = p in
-    c.move_last_up.ensures ∙ advance-words s.args.words.now s.requires.0 _ _ p.post_from-first.result p.post_from-first.ensures refl w.word.ensures
+    c.move_last_up.ensures ∙ advance_words s.args.words.now s.requires.0 _ _ p.post_from-first.result p.post_from-first.ensures refl w.word.ensures

@@ -2,8 +2,8 @@ use mathlib.Core.Path.{refl, sym, ◌∙◌}
 use mathlib.Core.Bool.{true, false}
 use Rattle.mailbox_calls.specs.Calls.{turned_from, turn_of}
 use Rattle.mailbox_layout.specs.Layout.{unpack_of}
-use Rattle.mailbox_turn_words.proofs.RunLaws.{ran_first, ran-third, turn-words}
-use Rattle.mailbox_words.proofs.CallLaws.{served, served-long, in_words, same-words, step-5, step-12, step-done}
+use Rattle.mailbox_turn_words.proofs.RunLaws.{ran_first, ran_third, turn_words}
+use Rattle.mailbox_words.proofs.CallLaws.{served, served_long, in_words, same_words, step_5, step_12, step_done}
 use Rattle.mailbox_turn_words.proofs.turn.Goals as goal
 
 pub returns-then-values-eq0 : goal.returns-then-values-eq0
@@ -12,7 +12,7 @@ returns-then-values-eq0 c = let i = c in
     let s = i in
     let ws = s.args.words.now in
     let vs = s.args.values.now in
-    let both = step-12 turned_from ws vs i.serves.result i.serves.ensures i.if-serves.true c.if-values-eq0.true in
+    let both = step_12 turned_from ws vs i.serves.result i.serves.ensures i.if-serves.true c.if-values-eq0.true in
     record { value = both.0; words_after = both.1.0; values_after = both.1.1 }
 
 pub bounds-words-0 : goal.bounds-words-0
@@ -33,7 +33,7 @@ bounds-words-2 c = let i = c in
 pub run-response-requires : goal.run-response-requires
 run-response-requires c = let i = c in
     let ws = i.args.words.now in
-    ((served ws i.serves.result i.serves.ensures i.if-serves.true).0, served-long ws i.serves.result i.serves.ensures i.if-serves.true)
+    ((served ws i.serves.result i.serves.ensures i.if-serves.true).0, served_long ws i.serves.result i.serves.ensures i.if-serves.true)
 
 pub bounds-words-0-in-Command : goal.bounds-words-0-in-Command
 bounds-words-0-in-Command c = let r = c in
@@ -45,7 +45,7 @@ pub bounds-words-2-in-Command : goal.bounds-words-2-in-Command
 bounds-words-2-in-Command c = let r = c in
     let i = c in
     let ws = i.args.words.now in
-    ran-third ws (served ws i.serves.result i.serves.ensures i.if-serves.true).0 _ _ r.run-response.ensures.words_after
+    ran_third ws (served ws i.serves.result i.serves.ensures i.if-serves.true).0 _ _ r.run-response.ensures.words_after
 
 pub returns-in-Idle : goal.returns-in-Idle
 unfolding turn_of
@@ -54,7 +54,7 @@ returns-in-Idle c = let p = c in
     let s = i in
     let ws = s.args.words.now in
     let vs = s.args.values.now in
-    let both = step-done turned_from ws vs i.serves.result i.serves.ensures i.if-serves.true p.if-values-eq0.false _ (sym c.in-Idle.is ∙ p.phase_from.ensures) (unpack_of ws) false _ refl (same-words ws i.serves.result i.serves.ensures i.if-serves.true) in
+    let both = step_done turned_from ws vs i.serves.result i.serves.ensures i.if-serves.true p.if-values-eq0.false _ (sym c.in-Idle.is ∙ p.phase_from.ensures) (unpack_of ws) false _ refl (same_words ws i.serves.result i.serves.ensures i.if-serves.true) in
     record { value = both.0; words_after = both.1.0; values_after = both.1.1 }
 
 pub returns-in-Command : goal.returns-in-Command
@@ -64,7 +64,7 @@ returns-in-Command c = let p = c in
     let s = i in
     let ws = s.args.words.now in
     let vs = s.args.values.now in
-    let both = step-done turned_from ws vs i.serves.result i.serves.ensures i.if-serves.true p.if-values-eq0.false _ (sym c.in-Command.is ∙ p.phase_from.ensures) _ true _ refl (turn-words ws (served ws i.serves.result i.serves.ensures i.if-serves.true).0 _ _ c.run-response.ensures.words_after _ _ (sym c.in-Command.is ∙ p.phase_from.ensures) c.run-response.ensures.value) in
+    let both = step_done turned_from ws vs i.serves.result i.serves.ensures i.if-serves.true p.if-values-eq0.false _ (sym c.in-Command.is ∙ p.phase_from.ensures) _ true _ refl (turn_words ws (served ws i.serves.result i.serves.ensures i.if-serves.true).0 _ _ c.run-response.ensures.words_after _ _ (sym c.in-Command.is ∙ p.phase_from.ensures) c.run-response.ensures.value) in
     record { value = both.0; words_after = both.1.0; values_after = both.1.1 }
 
 pub returns-in-Response : goal.returns-in-Response
@@ -74,11 +74,11 @@ returns-in-Response c = let p = c in
     let s = i in
     let ws = s.args.words.now in
     let vs = s.args.values.now in
-    let both = step-done turned_from ws vs i.serves.result i.serves.ensures i.if-serves.true p.if-values-eq0.false _ (sym c.in-Response.is ∙ p.phase_from.ensures) (unpack_of ws) false _ refl (same-words ws i.serves.result i.serves.ensures i.if-serves.true) in
+    let both = step_done turned_from ws vs i.serves.result i.serves.ensures i.if-serves.true p.if-values-eq0.false _ (sym c.in-Response.is ∙ p.phase_from.ensures) (unpack_of ws) false _ refl (same_words ws i.serves.result i.serves.ensures i.if-serves.true) in
     record { value = both.0; words_after = both.1.0; values_after = both.1.1 }
 
 pub returns-else-serves : goal.returns-else-serves
 unfolding turn_of
 returns-else-serves c = let s = c in
-    let both = step-5 turned_from s.args.words.now s.args.values.now c.serves.result c.serves.ensures c.if-serves.false in
+    let both = step_5 turned_from s.args.words.now s.args.values.now c.serves.result c.serves.ensures c.if-serves.false in
     record { value = both.0; words_after = both.1.0; values_after = both.1.1 }

@@ -2,13 +2,13 @@ use mathlib.Core.Path.{sym, ap, ◌∙◌}
 use Prim.Native.Nat.{ℕ}
 use Rattle.reply.specs.Reply.{Reply}
 use Rattle.lent.specs.Lent.{number_left, words_left, lay_number}
-use Rattle.lent.proofs.Laws.{fault-number, fault-words}
+use Rattle.lent.proofs.Laws.{fault_number, fault_words}
 use Rattle.window.specs.declared.Offset.{Offset}
 use Rattle.entries.specs.Part.{told_part, bytes_of}
 use Rattle.efs.specs.Rules.{rules_of}
 use Rattle.place.specs.Place.{part_at}
-use Rattle.place.proofs.View.{nearest-place}
-use Rattle.version_words.proofs.There.{version-there, version-none}
+use Rattle.place.proofs.View.{nearest_place}
+use Rattle.version_words.proofs.There.{version_there, version_none}
 use Rattle.version_words.proofs.view.Goals as goal
 
 pub returns-in-Given : goal.returns-in-Given
@@ -18,8 +18,8 @@ returns-in-Given c = let v = c in
     let f = t in
     let a = f.args in
     let s = a.image.now in
-    let near = ap (λ (o : Offset). part_at (rules_of s) s o.0 a.i) f.nearest-at.ensures ∙ nearest-place.part (rules_of s) s a.place a.i in
-    let is = version-there s _ (part_at (rules_of s) s a.place a.i) _ (sym (f.part_from.ensures ∙ near) ∙ ap told_part t.in-Given.is) (b.bytes_from.ensures.0 ∙ ap (bytes_of s) near) in record { value = v.version.ensures.value ∙ ap (λ (r : Reply ℕ). number_left lay_number r a.words.now) is; words_after = v.version.ensures.words_after ∙ ap (λ (r : Reply ℕ). words_left lay_number r a.words.now) is }
+    let near = ap (λ (o : Offset). part_at (rules_of s) s o.0 a.i) f.nearest-at.ensures ∙ nearest_place.part (rules_of s) s a.place a.i in
+    let is = version_there s _ (part_at (rules_of s) s a.place a.i) _ (sym (f.part_from.ensures ∙ near) ∙ ap told_part t.in-Given.is) (b.bytes_from.ensures.0 ∙ ap (bytes_of s) near) in record { value = v.version.ensures.value ∙ ap (λ (r : Reply ℕ). number_left lay_number r a.words.now) is; words_after = v.version.ensures.words_after ∙ ap (λ (r : Reply ℕ). words_left lay_number r a.words.now) is }
 
 pub returns-in-Refused : goal.returns-in-Refused
 returns-in-Refused c = let p = c in
@@ -27,5 +27,5 @@ returns-in-Refused c = let p = c in
     let f = m in
     let a = f.args in
     let s = a.image.now in
-    let near = ap (λ (o : Offset). part_at (rules_of s) s o.0 a.i) f.nearest-at.ensures ∙ nearest-place.part (rules_of s) s a.place a.i in
-    let none = version-none s (part_at (rules_of s) s a.place a.i) _ _ (sym (f.part_from.ensures ∙ near) ∙ ap told_part m.in-Refused.is) in record { value = fault-number lay_number _ _ m.in-Refused.why _ none p.put_fault.ensures.value; words_after = fault-words lay_number _ _ m.in-Refused.why _ none p.put_fault.ensures.words_after }
+    let near = ap (λ (o : Offset). part_at (rules_of s) s o.0 a.i) f.nearest-at.ensures ∙ nearest_place.part (rules_of s) s a.place a.i in
+    let none = version_none s (part_at (rules_of s) s a.place a.i) _ _ (sym (f.part_from.ensures ∙ near) ∙ ap told_part m.in-Refused.is) in record { value = fault_number lay_number _ _ m.in-Refused.why _ none p.put_fault.ensures.value; words_after = fault_words lay_number _ _ m.in-Refused.why _ none p.put_fault.ensures.words_after }

@@ -1,10 +1,10 @@
 use mathlib.Core.Path.{sym, ap, ◌∙◌}
-use Rattle.lent.proofs.Laws.{given-number, given-words, fault-number, fault-words}
+use Rattle.lent.proofs.Laws.{given_number, given_words, fault_number, fault_words}
 use Rattle.window.specs.declared.Offset.{Offset}
 use Rattle.entries.specs.Part.{told_part}
 use Rattle.efs.specs.Rules.{rules_of}
 use Rattle.place.specs.Place.{part_at}
-use Rattle.place.proofs.View.{nearest-place}
+use Rattle.place.proofs.View.{nearest_place}
 use Rattle.flash_words.specs.Images.{lay_part}
 use Rattle.view_words.proofs.part.Goals as goal
 
@@ -14,8 +14,8 @@ returns-in-Given c = let p = c.put.ensures in
     let f = m in
     let a = f.args in
     let s = a.image.now in
-    let asked = f.part_from.ensures ∙ ap (λ (o : Offset). part_at (rules_of s) s o.0 a.i) f.nearest.ensures ∙ nearest-place.part (rules_of s) s a.place a.i in
-    let gives = sym asked ∙ ap told_part m.in-Given.is in record { value = given-number lay_part _ _ m.in-Given.p _ gives p.value; words_after = given-words lay_part _ _ m.in-Given.p _ gives p.words_after }
+    let asked = f.part_from.ensures ∙ ap (λ (o : Offset). part_at (rules_of s) s o.0 a.i) f.nearest.ensures ∙ nearest_place.part (rules_of s) s a.place a.i in
+    let gives = sym asked ∙ ap told_part m.in-Given.is in record { value = given_number lay_part _ _ m.in-Given.p _ gives p.value; words_after = given_words lay_part _ _ m.in-Given.p _ gives p.words_after }
 
 pub returns-in-Refused : goal.returns-in-Refused
 returns-in-Refused c = let p = c in
@@ -23,5 +23,5 @@ returns-in-Refused c = let p = c in
     let f = m in
     let a = f.args in
     let s = a.image.now in
-    let asked = f.part_from.ensures ∙ ap (λ (o : Offset). part_at (rules_of s) s o.0 a.i) f.nearest.ensures ∙ nearest-place.part (rules_of s) s a.place a.i in
-    let refuses = sym asked ∙ ap told_part m.in-Refused.is in record { value = fault-number lay_part _ _ m.in-Refused.why _ refuses p.put_fault.ensures.value; words_after = fault-words lay_part _ _ m.in-Refused.why _ refuses p.put_fault.ensures.words_after }
+    let asked = f.part_from.ensures ∙ ap (λ (o : Offset). part_at (rules_of s) s o.0 a.i) f.nearest.ensures ∙ nearest_place.part (rules_of s) s a.place a.i in
+    let refuses = sym asked ∙ ap told_part m.in-Refused.is in record { value = fault_number lay_part _ _ m.in-Refused.why _ refuses p.put_fault.ensures.value; words_after = fault_words lay_part _ _ m.in-Refused.why _ refuses p.put_fault.ensures.words_after }

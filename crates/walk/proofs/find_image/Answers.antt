@@ -6,13 +6,13 @@ use Rattle.efs.specs.declared.Rules.{Rules}
 use Rattle.directory.specs.declared.Directory.{Directory}
 use Rattle.flash.specs.Flash.{from_lookup}
 use Rattle.efs.specs.Rules.{rules_of}
-use Rattle.flash.proofs.Ways.{opened-small}
+use Rattle.flash.proofs.Ways.{opened_small}
 use Rattle.walk.specs.Walk.{walk_of, first_in}
 use Rattle.walk.proofs.find_image.Goals as goal
 
 pub walk_directory-requires : goal.walk_directory-requires
 walk_directory-requires c = let m = c in
-    let o = opened-small (rules_of m.args.image.now) m.args.image.now m.in-Given.d 1 (sym m.directory.ensures ∙ ap told_directory m.in-Given.is) in
+    let o = opened_small (rules_of m.args.image.now) m.args.image.now m.in-Given.d 1 (sym m.directory.ensures ∙ ap told_directory m.in-Given.is) in
     let from = o.0.from in
     let to = o.0.to in
     let few = o.1 in

@@ -3,7 +3,7 @@ use Prim.Native.Nat.{◌+◌, ◌-◌}
 use native.Mathlib.Omega.{arith}
 use borrow.Author.Rules.{rules}
 use Rattle.walk.specs.Walk.{walk_from, first_in}
-use Rattle.walk.proofs.Steps.{by-pass, pass-told}
+use Rattle.walk.proofs.Steps.{by_pass, pass_told}
 use Rattle.walk.proofs.pass_by.Goals as goal
 
 pub loop-rest-init : goal.loop-rest-init
@@ -18,7 +18,7 @@ loop-rest-preserved c = let l = c in
     let e : a.tested + (a.left - (r - 1)) ≡ a.tested + (a.left - r) + 1 = omega arith in (
       omega arith,
       ap (first_in a.by.rules.kind a.image.now a.by.class a.by.sub (walk_from a.depth a.by.rules a.image.now a.d (r - 1) (a.d.total - (r - 1)))) e
-          ∙ by-pass a.depth a.by.rules a.image.now a.d a.by.class a.by.sub r (a.tested + (a.left - r)) (omega arith) (omega arith) (pass-told _ (sym c.passes.ensures ∙ c.if-passes.true))
+          ∙ by_pass a.depth a.by.rules a.image.now a.d a.by.class a.by.sub r (a.tested + (a.left - r)) (omega arith) (omega arith) (pass_told _ (sym c.passes.ensures ∙ c.if-passes.true))
           ∙ l.loop-rest.invariant.1,
     )
 

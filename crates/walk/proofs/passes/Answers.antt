@@ -8,7 +8,7 @@ use Rattle.directory.specs.Directory.{entry_place}
 use Rattle.entries.specs.Entry.{fields_at, matches}
 use Rattle.entries.specs.declared.Entry.{Entry}
 use Rattle.walk.specs.Probe.{probe_of, is_pass}
-use Rattle.walk.proofs.Steps.{pass-left}
+use Rattle.walk.proofs.Steps.{pass_left}
 use Rattle.walk.proofs.passes.Goals as goal
 use Rattle.walk.proofs.passes.Goals.{After-total}
 
@@ -23,7 +23,7 @@ told : (t : After-total) → let p = t in let a = p.args in
 told t =
     let p = t in
     let a = p.args in
-    pass-left a.depth a.by.rules a.image.now a.d a.by.class a.by.sub a.left t.place-at.result t.total.result t.place-at.ensures t.total.ensures p.requires.0 p.requires.1
+    pass_left a.depth a.by.rules a.image.now a.d a.by.class a.by.sub a.left t.place-at.result t.total.result t.place-at.ensures t.total.ensures p.requires.0 p.requires.1
 
 pub returns-then-entry_matches : goal.returns-then-entry_matches
 returns-then-entry_matches c = let t = (goal.at.returns-then-entry_matches c).After-total in

@@ -4,7 +4,7 @@ use Rattle.entries.specs.Entry.{told_entry}
 use Rattle.entries.specs.declared.EntryAnswer.{EntryAnswer}
 use Rattle.walk.specs.Probe.{probed, probed_by, probe_of}
 use Rattle.walk.specs.declared.Probe.TheVariants as probe
-use Rattle.reply.proofs.ReplyLaws.{fault-back}
+use Rattle.reply.proofs.ReplyLaws.{fault_back}
 use Rattle.walk.proofs.probe_entry.Goals as goal
 use Rattle.walk.proofs.probe_entry.Goals.{After-entry_in}
 
@@ -27,5 +27,5 @@ returns-in-Given c = let l = c in
 pub returns-in-Refused : goal.returns-in-Refused
 returns-in-Refused c = let l = c in
     let a = l.args in
-    sym (ap (λ w. probe.Refused w) (fault-back c.in-Refused.why))
+    sym (ap (λ w. probe.Refused w) (fault_back c.in-Refused.why))
     ∙ ap (λ (r : EntryAnswer). probed_by (probed a.depth a.by a.image.now a.d (l.total.result - a.left)) (told_entry r)) (sym c.in-Refused.is) ∙ probed-at (goal.at.returns-in-Refused c).After-entry_in

@@ -5,7 +5,7 @@ use borrow.Author.Tests.{le-leb, lt-leb}
 use Rattle.reply.specs.Reply.{Reply}
 use Rattle.reply.proofs.ReplyLaws.{passed, failed}
 use Rattle.window.specs.Length.{length_allowed}
-use Rattle.window.proofs.Length.{allowed-fact}
+use Rattle.window.proofs.Length.{allowed_fact}
 use Rattle.efs.specs.declared.Rules.{Rules}
 use Rattle.wrong.specs.Wrong.{at_level, wrong_in, wrong_at}
 use Rattle.wrong.specs.declared.WrongField.{WrongField}
@@ -26,7 +26,7 @@ unfolding wrong_at
 returns-then-image-place c = sym (passed _ _ _ _ (le-leb _ _ c.if-level-gt2.false) ∙ passed _ _ _ _ (allowed (goal.at.returns-then-image-place c).Then-length_allowed) ∙ failed _ _ _ _ (lt-leb _ _ c.if-image-place.true))
 
 pub overflow_cast-place : goal.overflow_cast-place
-overflow_cast-place c = let h = (allowed-fact c.args.image.now (allowed (goal.at.overflow_cast-place c).Then-length_allowed)).to in omega arith
+overflow_cast-place c = let h = (allowed_fact c.args.image.now (allowed (goal.at.overflow_cast-place c).Then-length_allowed)).to in omega arith
 
 pub wrong_in-requires : goal.wrong_in-requires
 wrong_in-requires c = allowed (goal.at.wrong_in-requires c).Then-length_allowed
