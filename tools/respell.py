@@ -73,9 +73,25 @@ def edit(text):
             line = re.sub(r"(?<=[\w)\]']) \.(?=[a-z0-9])", ".", line)
             line = re.sub(r"\((\w+(?:\.\w+)+)\)", r"\1", line)
             line = re.sub(r"\bgetD\b", "get_or", line)
+            line = re.sub(r"\bNat\._([-+])_", r"Nat.◌\1◌", line)
+            line = re.sub(r"Rattle·(\w+)·specs\.specs\.", r"Rattle.\1.specs.", line)
+            line = re.sub(r"Rattle·(\w+)\.specs\.", r"Rattle.\1.specs.", line)
             line = re.sub(r"\{ λ r\. ⌜ (.*) ⌝ \}", lambda m: "{ " + re.sub(r"\br\b", "result", m.group(1)) + " }", line)
             line = re.sub(r"\{ ⌜ (.*) ⌝ \}", r"{ \1 }", line)
         lines.append(line)
+    return "\n".join(lines)
+
+
+def outside_comments(path, text, turn):
+    """The text, with `turn` of each line up to its comment."""
+    if path.endswith(".edit"):
+        return turn(text)
+    comment = re.compile(r"(?:^|(?<=\s))--.*$" if path.endswith(".antt") else r"//.*$")
+    lines = []
+    for line in text.split("\n"):
+        at = comment.search(line)
+        cut = at.start() if at else len(line)
+        lines.append(turn(line[:cut]) + line[cut:])
     return "\n".join(lines)
 
 
@@ -90,7 +106,7 @@ def without_dashes(texts):
                     own.add(found.group(1))
     own -= KEPT
     new = {name: name.replace("-", "_") + ("_lem" if name in BESIDE else "") for name in own}
-    return {path: DASHED.sub(lambda m: new.get(m.group(0), m.group(0)), text) for path, text in texts.items()}, new
+    return {path: outside_comments(path, text, lambda code: DASHED.sub(lambda m: new.get(m.group(0), m.group(0)), code)) for path, text in texts.items()}, new
 
 
 def main():
@@ -123,7 +139,7 @@ def main():
         if text != before[path]:
             with open(path, "w", encoding="utf-8") as it:
                 it.write(text)
-    # The pages name the definitions too; their landing notes stay as they were written.
+    # The pages name the definitions too.
     pages = ["README.md"] + [os.path.join("docs", f) for f in sorted(os.listdir("docs")) if f.endswith(".md")]
     for page in pages:
         with open(page, encoding="utf-8") as it:

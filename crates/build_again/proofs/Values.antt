@@ -1,4 +1,4 @@
--- The definitions tried: a level_two_lem directory of two entries, the second that of document 01's M2, which stands at place 3 of an image with a byte behind it; read there, and written again into a buffer. Assumes nothing.
+-- The definitions tried: a level-two directory of two entries, the second that of document 01's M2, which stands at place 3 of an image with a byte behind it; read there, and written again into a buffer. Assumes nothing.
 use mathlib.Core.Path.{◌≡◌, refl}
 use mathlib.Core.List.{List, [], ◌∷◌, ◌++◌}
 use Prim.Native.Nat.{ℕ}

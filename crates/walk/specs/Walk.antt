@@ -27,7 +27,7 @@ abbrev pub walked_by : (walk : Directory → List Step) → Reply Directory → 
 walked_by walk (given d) = walk d
 walked_by walk (refused number carried) = fault number carried ∷ []
 
--- what e, entry i of a directory, leads to, with so many levels left below: a 0x40 entry to the level_two_lem directory at its location, any other to nothing
+-- what e, entry i of a directory, leads to, with so many levels left below: a 0x40 entry to the level-two directory at its location, any other to nothing
 unfoldable pub below_of : (depth : ℕ) → Rules → (image : List ℕ) → Directory → (i : ℕ) → Entry → List Step
 below_of zero r image d i e = []
 below_of (suc depth) r image d i e =
