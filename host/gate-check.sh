@@ -121,6 +121,8 @@ rm "$root/crates/kpalumere/must-fail/nine.edit"
 expect 'an edit that is refused for a fact is taken' edits_are_read
 echo 'rt: must-fail kpalumere/eight.edit: refused, as it must be (only because a proof file names what the edit took away, so this says little of the contract: change a value and keep the names): proofs/seven/Answers.antt:9:1: error: `add-t4`: module `Goals` has no `add-t4` that can be named from here' >"$log"
 expect 'one that is refused for its shape alone is named' are_named 'the edit kpalumere/eight.edit is refused for its shape alone'
+echo 'rt: must-fail kpalumere/eight.edit: refused, as it must be: ./specs/Seven.antt:3:9: error: `seven`: `Nat.plus`: module `Nat` has no `plus` that can be named from here' >"$log"
+expect 'one that is refused for a name that is not there is named' are_named 'the edit kpalumere/eight.edit is refused for a name that is not there'
 echo 'rt: must-fail kpalumere/eight.edit: BAD EDIT: it did not reach the prover; the first lines of what it said:' >"$log"
 expect 'one that does not compile is named' are_named 'the edit kpalumere/eight.edit is not refused because of a fact'
 

@@ -105,6 +105,11 @@ edits_show_facts() {
             printf 'the edit %s is refused for its shape alone. Exchange an operand, and keep the names.\n' "$edit"
             lost=1
             ;;
+        *': refused, as it must be'*' has no `'* | *': refused, as it must be'*'can be named from here'* | *': refused, as it must be'*'no module is found by the path'* | \
+            *': refused, as it must be'*' has no field'* | *': refused, as it must be'*' is not in scope'*)
+            printf 'the edit %s is refused for a name that is not there: %s. Write names that the file has.\n' "$edit" "${line#*: refused, as it must be: }"
+            lost=1
+            ;;
         *': refused, as it must be: '* | *': refused, as it must be (only by a limit of the prover'*) ;;
         *)
             printf 'the edit %s is not refused because of a fact: %s\n' "$edit" "${line#*: *: }"
