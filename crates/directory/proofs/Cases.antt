@@ -5,13 +5,18 @@ use Prim.Native.Nat.{ℕ, ◌+◌, ◌*◌, ◌<◌, ◌≤◌}
 use native.Mathlib.Omega.{arith}
 use borrow.Author.Tests.{le-leb, lt-leb, eq-eqb, ne_eqb}
 use lib.ListN.{length}
-use lib.Dec.{eqb}
+use mathlib.Core.Bool.{false}
+use lib.Dec.{eqb, leb}
 use Rattle.le.specs.Le.{le_at}
 use Rattle.reply.specs.Reply.{Reply, refused, in_header, check}
 use Rattle.reply.proofs.ReplyLaws.{passed, failed}
 use Rattle.directory.specs.Directory.{cookie_of, total_at, entry_place, checksum_at, entries_at, directory_checks, directory_by_cookie}
 use Rattle.directory.specs.declared.Kind.{Kind}
 use Rattle.directory.specs.declared.Directory.{Directory}
+
+-- a level above two
+pub level_above : (level : ℕ) → 2 < level → leb level 2 ≡ false
+level_above level above = lt-leb level 2 above
 
 -- where 16 bytes are present, and a number was found at the start
 module _ (kind : Kind) (limit : ℕ) (s : List ℕ) (o found : ℕ) (is : found ≡ le_at 4 s (o + 0)) (head : o + 16 ≤ length s) where

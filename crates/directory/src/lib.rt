@@ -339,6 +339,7 @@ fn sealed(image: &[u8], kind: Kind, level: u32, at: Offset, n: u32) -> Directory
 }
 
 // All checks of a directory of a level, of at most so many entries. A level that there is not is refused.
+#[tactic(auto, using(crate::proofs::Cases::level_above))]
 pub fn directory_at(image: &[u8], kind: Kind, limit: u32, level: u32, at: Offset) -> DirectoryAnswer
     ensures { told_directory result ≡ directory_at kind limit level image.now at.0 }
 {
