@@ -123,6 +123,8 @@ echo 'rt: must-fail kpalumere/eight.edit: refused, as it must be (only because a
 expect 'one that is refused for its shape alone is named' are_named 'the edit kpalumere/eight.edit is refused for its shape alone'
 echo 'rt: must-fail kpalumere/eight.edit: refused, as it must be: ./specs/Seven.antt:3:9: error: `seven`: `Nat.plus`: module `Nat` has no `plus` that can be named from here' >"$log"
 expect 'one that is refused for a name that is not there is named' are_named 'the edit kpalumere/eight.edit is refused for a name that is not there'
+echo 'rt: must-fail kpalumere/eight.edit: refused, as it must be: ./proofs/seven/Answers.antt:43:39: error: `seven-requires`: record `Rattle.kpalumere.proofs.seven' >"$log"
+expect 'one whose reason is cut off before the name is named' are_named 'the edit kpalumere/eight.edit is refused for a name that is not there'
 echo 'rt: must-fail kpalumere/eight.edit: BAD EDIT: it did not reach the prover; the first lines of what it said:' >"$log"
 expect 'one that does not compile is named' are_named 'the edit kpalumere/eight.edit is not refused because of a fact'
 

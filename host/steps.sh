@@ -92,7 +92,8 @@ edits_fit() {
 }
 
 # Each must-fail edit was refused because a fact does not hold. One that is refused only because a proof no longer fits the code, or because
-# a name is not there, says nothing of what the changed program does: `rt ci` says so on the edit's line, which is in the log of the proofs.
+# a name is not there, says nothing of what the changed program does: `rt ci` says so on the edit's line, which is in the log of the proofs. It cuts
+# the reason off, so a record or a module that begins it is taken for a missing name.
 edits_show_facts() {
     local log=$logs/proofs.log line edit tried=0 lost=0 there
     there=$(find "$root"/crates/*/must-fail -name '*.edit' 2>/dev/null | wc -l)
@@ -106,7 +107,8 @@ edits_show_facts() {
             lost=1
             ;;
         *': refused, as it must be'*' has no `'* | *': refused, as it must be'*'can be named from here'* | *': refused, as it must be'*'no module is found by the path'* | \
-            *': refused, as it must be'*' has no field'* | *': refused, as it must be'*' is not in scope'*)
+            *': refused, as it must be'*' has no field'* | *': refused, as it must be'*' is not in scope'* | \
+            *': refused, as it must be'*': record `'* | *': refused, as it must be'*': module `'*)
             printf 'the edit %s is refused for a name that is not there: %s. Write names that the file has.\n' "$edit" "${line#*: refused, as it must be: }"
             lost=1
             ;;

@@ -155,6 +155,7 @@ fn walk_directory(
 }
 
 // The walk of the last entries of a directory, so many as are left.
+#[tactic(auto, using(crate::proofs::Steps::walk_none))]
 #[cycle(walk_directory_walk_entry)]
 fn walk_entry(
     image: &[u8],

@@ -3,7 +3,7 @@ use Prim.Native.Nat.{ℕ, ◌+◌, ◌-◌, ◌<◌, ◌≤◌}
 use native.Mathlib.Omega.{arith}
 use Rattle.reply.specs.Reply.{given}
 use Rattle.walk.specs.Walk.{walk_from, first_in, told_image_match}
-use Rattle.walk.proofs.Steps.{walk_none, walk_whole, by_match, by_pass, by_fault, enter_facts, enter_given, enter_refused, enter_absent, enter_count}
+use Rattle.walk.proofs.Steps.{walk_whole, by_match, by_pass, by_fault, enter_facts, enter_given, enter_refused, enter_absent, enter_count}
 use Rattle.walk.proofs.+walk_directory_walk_entry.Goals as goal
 
 pub walk_directory-returns : goal.walk_directory-returns
@@ -11,13 +11,6 @@ walk_directory-returns t c =
     let a = c.args in
     c.walk_entry.ensures ∙ ap (λ (n : ℕ). first_in a.by.rules.kind a.image.now a.by.class a.by.sub (walk_from a.depth a.by.rules a.image.now a.d n (a.d.total - n)) a.tested) c.total.ensures
     ∙ walk_whole a.depth a.by.rules a.image.now a.d a.by.class a.by.sub a.tested
-
-pub walk_entry-returns-then-rest-eq0 : goal.walk_entry-returns-then-rest-eq0
-walk_entry-returns-then-rest-eq0 t c =
-    let a = c.args in
-    let pb = c.pass_by-rest in
-    let r = pb.result in
-    walk_none a.depth a.by.rules a.image.now a.d a.by.class a.by.sub r (a.d.total - r) (a.tested + (a.left - r)) c.if-rest-eq0.true ∙ pb.ensures.1
 
 pub walk_entry-overflow_sub-depth : goal.walk_entry-overflow_sub-depth
 walk_entry-overflow_sub-depth t c =
@@ -40,7 +33,7 @@ walk_entry-walk_entry-requires-in-Absent t c =
     let pb = c.pass_by-rest in
     let r = pb.result in
     let q = sym c.in-Enter.is ∙ c.probe_entry.ensures in
-    let some : 0 < r = omega (arith, c.if-rest-eq0.false) in
+    let some : 0 < r = omega arith in
     let few : r ≤ a.d.total = omega (arith, pb.ensures.0, c.requires) in
     let f = enter_facts a.depth a.by.rules a.image.now a.d a.by.class a.by.sub r (a.tested + (a.left - r)) some few c.in-Enter.n q in
     let u = enter_count a.depth a.by.rules a.image.now a.d a.by.class a.by.sub r (a.tested + (a.left - r)) some few c.in-Enter.n q c.in-Absent.t (ap told_image_match (sym c.in-Absent.is) ∙ c.walk_directory.ensures) (omega (arith, pb.ensures.0, c.requires)) in
@@ -66,7 +59,7 @@ walk_entry-returns-in-Given t c =
     let pb = c.pass_by-rest in
     let r = pb.result in
     let q = sym c.in-Enter.is ∙ c.probe_entry.ensures in
-    enter_given a.depth a.by.rules a.image.now a.d a.by.class a.by.sub r (a.tested + (a.left - r)) (omega (arith, c.if-rest-eq0.false)) (omega (arith, c.requires)) c.in-Enter.n q c.in-Given.f (ap told_image_match (sym c.in-Given.is) ∙ c.walk_directory.ensures)
+    enter_given a.depth a.by.rules a.image.now a.d a.by.class a.by.sub r (a.tested + (a.left - r)) (omega arith) (omega (arith, c.requires)) c.in-Enter.n q c.in-Given.f (ap told_image_match (sym c.in-Given.is) ∙ c.walk_directory.ensures)
     ∙ pb.ensures.1
 
 pub walk_entry-returns-in-Absent : goal.walk_entry-returns-in-Absent
@@ -75,7 +68,7 @@ walk_entry-returns-in-Absent t c =
     let pb = c.pass_by-rest in
     let r = pb.result in
     let q = sym c.in-Enter.is ∙ c.probe_entry.ensures in
-    (c.walk_entry-in-Absent.ensures ∙ enter_absent a.depth a.by.rules a.image.now a.d a.by.class a.by.sub r (a.tested + (a.left - r)) (omega (arith, c.if-rest-eq0.false)) (omega (arith, c.requires)) c.in-Enter.n q c.in-Absent.t (ap told_image_match (sym c.in-Absent.is) ∙ c.walk_directory.ensures))
+    (c.walk_entry-in-Absent.ensures ∙ enter_absent a.depth a.by.rules a.image.now a.d a.by.class a.by.sub r (a.tested + (a.left - r)) (omega arith) (omega (arith, c.requires)) c.in-Enter.n q c.in-Absent.t (ap told_image_match (sym c.in-Absent.is) ∙ c.walk_directory.ensures))
     ∙ pb.ensures.1
 
 pub walk_entry-returns-in-Refused-walk_directory : goal.walk_entry-returns-in-Refused-walk_directory
@@ -85,7 +78,7 @@ walk_entry-returns-in-Refused-walk_directory t c =
     let r = pb.result in
     let w = c.in-Refused-walk_directory in
     let q = sym c.in-Enter.is ∙ c.probe_entry.ensures in
-    enter_refused a.depth a.by.rules a.image.now a.d a.by.class a.by.sub r (a.tested + (a.left - r)) (omega (arith, c.if-rest-eq0.false)) (omega (arith, pb.ensures.0, c.requires)) c.in-Enter.n q w.why (ap told_image_match (sym w.is) ∙ c.walk_directory.ensures)
+    enter_refused a.depth a.by.rules a.image.now a.d a.by.class a.by.sub r (a.tested + (a.left - r)) (omega arith) (omega (arith, pb.ensures.0, c.requires)) c.in-Enter.n q w.why (ap told_image_match (sym w.is) ∙ c.walk_directory.ensures)
     ∙ pb.ensures.1
 
 pub walk_entry-returns-in-Refused : goal.walk_entry-returns-in-Refused
