@@ -52,7 +52,7 @@ cells() { rows_under PROMISES.md "^## $1\$" | awk -F' *[|] *' -v k="$2" '{ print
 # A crate's public calls; one of a type with the type's name before it.
 calls_of() { # CRATE
     find "crates/$1/src" -name '*.rt' -exec awk '
-        /^impl / { type = $2 "::" }
+        /^impl(<[^>]*>)? / { type = $2; sub(/<.*/, "", type); type = type "::" }
         /^}/ { type = "" }
         match($0, /^ *pub (extern "C" )?fn [a-z0-9_]+/) { n = split(substr($0, RSTART, RLENGTH), word, " "); print type word[n] }' {} + | sort
 }

@@ -5,13 +5,32 @@ use mathlib.Core.Bool.{Bool, true, false, cond}
 use Prim.Native.Nat.{ℕ, zero, suc, ◌+◌, ◌-◌, ◌<◌, ◌≤◌}
 use native.Mathlib.Omega.{arith}
 use lib.Dec.{eqb}
+use Rattle.std.specs.Prelude.{Option, Some, None}
 use Rattle.reply.specs.Reply.{Reply, Carried, given, refused, then}
 use Rattle.directory.specs.declared.Directory.{Directory}
 use Rattle.efs.specs.declared.Rules.{Rules}
 use Rattle.entries.specs.Entry.{entry_of}
+use Rattle.flash.specs.Flash.{level_two_at}
 use Rattle.walk.specs.Walk.{Step, entries_from, walked_by, below_of, walk_from, walk_of}
 use Rattle.all_directories.specs.AllDirectories.{Entered, entered_in}
-use Rattle.all_directories.specs.Gathered.{led_by, added_by}
+use Rattle.all_directories.specs.Gathered.{led_by}
+
+-- what entry i of level one adds: the directory that it leads to, or nothing where it is no lead
+abbrev pub entered_by : (i : ℕ) → Option Directory → List Entered
+entered_by i None = []
+entered_by i (Some n) = record { directory = n; lead = i } ∷ []
+
+unfoldable pub added_by : Rules → (image : List ℕ) → Directory → (i : ℕ) → Reply (List Entered)
+added_by r image d i = then (led_by r image d i) (λ led. given (entered_by i led))
+
+module _ (r : Rules) (s : List ℕ) (d : Directory) (i : ℕ) where
+  pub added_led : (led : Option Directory) → given led ≡ led_by r s d i → added_by r s d i ≡ given (entered_by i led)
+  unfolding added_by
+  added_led led e = ap (λ x. then x (λ led. given (entered_by i led))) (sym e)
+
+  pub added_fault : (number : ℕ) (carried : Carried) → refused number carried ≡ led_by r s d i → added_by r s d i ≡ refused number carried
+  unfolding added_by
+  added_fault number carried e = ap (λ x. then x (λ led. given (entered_by i led))) (sym e)
 
 -- what is entered, and then what is entered behind it
 abbrev pub joined : (first rest : Reply (List Entered)) → Reply (List Entered)
@@ -36,14 +55,14 @@ module _ (r : Rules) (s : List ℕ) where
     any_last (suc m) i last = refl
 
     pub entry_first : (m i last : ℕ) → entered_in (walk_from 1 r s d (suc m) i) last ≡ joined (added_by r s d i) (entered_in (walk_from 1 r s d m (i + 1)) 0)
-    unfolding entered_in entries_from below_of added_by
-    entry_first m i last = by (eqb (entry_of r.kind s d i).class r.kind.lead) (led_by r s d i)
+    unfolding entered_in entries_from below_of led_by added_by
+    entry_first m i last = by (eqb (entry_of r.kind s d i).class r.kind.lead) (level_two_at r s d i (entry_of r.kind s d i))
       where
         rest : List Step
         rest = walk_from 1 r s d m (i + 1)
 
         by : (b : Bool) (x : Reply Directory) → entered_in (cond b (walked_by (walk_of 0 r s) x) [] ++ rest) i ≡
-            joined (cond b (then x (λ n. given (record { directory = n; lead = i } ∷ []))) (given [])) (entered_in rest 0)
+            joined (then (cond b (then x (λ n. given (Some n))) (given None)) (λ led. given (entered_by i led))) (entered_in rest 0)
         by true (given n) = ap (λ (x : Reply (List Entered)). then x (λ behind. given (record { directory = n; lead = i } ∷ behind))) (past_two n rest (entered_in rest 0) (any_last m (i + 1)) n.total 0 i)
         by true (refused number carried) = refl
         by false x = any_last m (i + 1) i ∙ same (entered_in rest 0)

@@ -1,4 +1,2 @@
 pub mod Entry
-pub mod Rows
-pub mod Added
 pub mod Reached

@@ -17,8 +17,8 @@ use Rattle.walk_places.specs.Places.{led_to, Enters, FaultAt, total_below, total
 use Rattle.walk_places.proofs.Order.{Compared, less, equal, more, compared, one_given, no_fault}
 use Rattle.walk_places.proofs.Answer.{more_below}
 use Rattle.all_directories.specs.AllDirectories.{Entered, entered_in}
-use Rattle.all_directories.specs.Gathered.{added_by}
-use Rattle.all_directories.proofs.Entry.{joined, entry_first}
+use Rattle.all_directories.specs.Gathered.{led_by}
+use Rattle.all_directories.proofs.Entry.{added_by, joined, entry_first}
 use Rattle.all_directories_told.specs.Told.{In, Rising, totals_of}
 use Rattle.all_directories_told.proofs.Lists.{all_from, all_append, in_front, in_back, rising_append, totals_append}
 
@@ -63,7 +63,7 @@ module _ (r : Rules) (s : List ℕ) (d : Directory) where
 
   -- ---- the last m entries of level one
   pub came : (m i : ℕ) → i + m ≡ d.total → Came i (entered_in (walk_from 1 r s d m i) 0)
-  unfolding entered_in entries_from totals_of added_by
+  unfolding entered_in entries_from totals_of led_by added_by
   came zero i e =
       let z : d.total ≡ i = omega arith in
       let y : totals_below r s d d.total ≡ totals_below r s d i = ap (totals_below r s d) z in

@@ -9,6 +9,7 @@ use Rattle.reply.specs.Reply.{Reply, given, refused}
 use Rattle.lent.specs.Lent.{number_for, words_for}
 use Rattle.lent.proofs.Laws.{number_fits, words_fits}
 use Rattle.window.specs.Length.{longest, sized}
+use Rattle.window.specs.Window.{nearest_to}
 use Rattle.window.specs.declared.Offset.{Offset}
 use Rattle.window.proofs.Length.{sized_passed}
 use Rattle.directory.specs.Directory.{psp_kind, entry_place}
@@ -21,7 +22,7 @@ use Rattle.entries.proofs.Cases.{fields_part}
 use Rattle.efs.specs.Rules.{rules_of}
 use Rattle.efs.specs.declared.Rules.{Rules}
 use Rattle.place.specs.Place.{check_at}
-use Rattle.place.proofs.View.{place_acceptance}
+use Rattle.place.proofs.View.{place_acceptance, nearest_directory}
 use Rattle.flash_words.specs.Images.{lay_directory, lay_entry}
 use Rattle.all_entries.specs.AllEntries.{lay_part_or, lay_row, row_at, rows_from, lay_entries}
 
@@ -38,11 +39,6 @@ row_long : (e : Entry) (part : Reply Part) → length (lay_row e part) ≡ 8
 row_long e (given p) = refl
 row_long e (refused number carried) = refl
 
--- what fills the lent words is all that they hold
-words_filled : (values words : List ℕ) → length values ≡ length words → words_for values words ≡ values
-words_filled values words h =
-    sym (words_fits values words (omega (arith, h))) ∙ (ap (λ (l : List ℕ). values ++ l) (drop_of_length-le words {i = length values} (omega (arith, h))) ∙ append-nil values)
-
 -- a row, of what the code reads at the entry's place
 module _ (s : List ℕ) (d : Directory) (i : ℕ) (rules : Rules) (is : rules ≡ rules_of s) (at : Offset) (here : at ≡ d.place) (from : ℕ) (found : from ≡ entry_place rules.kind at.0 i) where
   pub entry_from : from ≡ entry_place psp_kind d.place.0 i
@@ -52,15 +48,13 @@ module _ (s : List ℕ) (d : Directory) (i : ℕ) (rules : Rules) (is : rules �
     the_entry : e ≡ entry_of psp_kind s d i
     the_entry = read ∙ (fields_part s from (from + 16) refl ∙ ap (fields_at s) entry_from)
 
-    pub row_put : (part : Reply Part) (values row after : List ℕ) → part ≡ sized s (part_of rules.kind rules.window s at.0 e) → values ≡ lay_row e part → length row ≡ 8 → after ≡ words_for values row →
-        after ≡ row_at (rules_of s) s d i
-    row_put part values row after told laid eight put =
+    pub row_put : (part : Reply Part) (values : List ℕ) → part ≡ sized s (part_of rules.kind rules.window s at.0 e) → values ≡ lay_row e part →
+        values ≡ row_at (rules_of s) s d i
+    row_put part values told laid =
         let lies : part ≡ part_of psp_kind (length s) s d.place.0 e =
         told ∙ (sized_passed s _ (record { from = omega arith; to = long })
         ∙ (ap (λ (r : Rules). part_of r.kind r.window s at.0 e) is ∙ ap (λ (o : Offset). part_of psp_kind (length s) s o.0 e) here)) in
-        put
-        ∙ (words_filled values row (ap (λ (l : List ℕ). length l) laid ∙ (row_long e part ∙ sym eight))
-        ∙ (laid ∙ (ap (lay_row e) lies ∙ ap (λ (e : Entry). lay_row e (part_of psp_kind (length s) s d.place.0 e)) the_entry)))
+        laid ∙ (ap (lay_row e) lies ∙ ap (λ (e : Entry). lay_row e (part_of psp_kind (length s) s d.place.0 e)) the_entry)
 
 module _ (r : Rules) (s : List ℕ) (d : Directory) where
   pub row_at_long : (i : ℕ) → length (row_at r s d i) ≡ 8
@@ -139,3 +133,8 @@ module _ (r : Rules) (s : List ℕ) (d : Directory) where
 -- a directory that is given at a place lies in the image, and so do its entries
 pub in_image_lem : (s : List ℕ) (place : ℕ) (d : Directory) → check_at (rules_of s) s place ≡ given d → (length s ≤ longest) × (entry_place psp_kind d.place.0 d.total ≤ length s) × (d.total ≤ 512)
 in_image_lem s place d e = let g = place_acceptance.only (rules_of s) s place d e in (g.long.to, g.good.present, g.good.few)
+
+-- so does one at the offset nearest to a place
+pub near_in_image : (s : List ℕ) (o : Offset) (place : ℕ) (d : Directory) → o ≡ nearest_to place → given d ≡ check_at (rules_of s) s o.0 →
+    (length s ≤ longest) × (entry_place psp_kind d.place.0 d.total ≤ length s) × (d.total ≤ 512)
+near_in_image s o place d near g = in_image_lem s place d (sym (g ∙ nearest_directory (rules_of s) s o place near))

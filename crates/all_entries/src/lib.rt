@@ -2,16 +2,18 @@
 #![tactic(auto)]
 
 ghost use Rattle.std.specs.Prelude.{◌≡◌, ◌++◌, ◌+◌, ◌*◌, ◌≤◌, length, take, drop};
-ghost use Rattle.lent.specs.Lent.{number_for, words_for, number_left, words_left};
+ghost use Rattle.reply.specs.Reply.{told};
+ghost use Rattle.lent.specs.Lent.{answered, number_for, words_for, number_left, words_left};
 ghost use Rattle.window.specs.Length.{longest};
 ghost use Rattle.directory.specs.Directory.{psp_kind, entry_place};
-ghost use Rattle.entries.specs.Part.{told_part};
 ghost use Rattle.efs.specs.Rules.{rules_of};
 ghost use Rattle.place.specs.Place.{check_at};
 ghost use Rattle.all_entries.specs.AllEntries.{lay_part_or, lay_row, row_at, rows_from, lay_entries};
 
-use directory::{Directory, DirectoryAnswer};
-use entries::{Entry, PartAnswer};
+use directory::Directory;
+use entries::{Entry, Part};
+use reply::{Fault, Refusal};
+use view::View;
 use window::Offset;
 
 // The words of a directory, and those of an entry with its part.
@@ -23,34 +25,26 @@ const ROW: usize = 8;
 const ENTRY: usize = 16;
 
 // The last three words of a row: of a part that is given 0, where it begins and its length; of one that is refused its number, 0 and 0.
-fn part_words(part: PartAnswer) -> [u64; 3]
-    ensures { result ≡ lay_part_or (told_part part) }
+fn part_words(part: Result<Part, Fault>) -> [u64; 3]
+    ensures { result ≡ lay_part_or (told part) }
 {
     match part {
-        PartAnswer::Given(p) => {
-            let begin = p.place;
-            let place = begin.0 as u64;
-            let length = p.length as u64;
+        Ok(p) => {
+            let [place, length] = flash_words::part_words(p);
             [0, place, length]
         }
-        PartAnswer::Refused(why) => [why.number as u64, 0, 0],
+        Err(fault) => [fault.refusal.number() as u64, 0, 0],
     }
 }
 
 // The words of a row: an entry, and its part.
-fn row_of(e: Entry, part: PartAnswer) -> [u64; 8]
-    ensures { result ≡ lay_row e (told_part part) }
+fn row_of(e: Entry, part: Result<Part, Fault>) -> [u64; 8]
+    ensures { result ≡ lay_row e (told part) }
 {
-    let last = part_words(part);
+    let [class, subprogram, size, location, mode] = flash_words::entry_words(e);
+    let [number, place, length] = part_words(part);
     [
-        e.class as u64,
-        e.subprogram as u64,
-        e.size as u64,
-        e.location,
-        e.mode as u64,
-        last[0],
-        last[1],
-        last[2],
+        class, subprogram, size, location, mode, number, place, length,
     ]
 }
 
@@ -63,11 +57,9 @@ fn put_entry(image: &[u8], d: Directory, i: u32, row: &mut [u64])
     let at = d.place();
     let from = directory::entry_place(rules.kind, at, i);
     let e = entries::fields_of(&image[from..from + ENTRY]);
-    let values = row_of(
-        e,
-        entries::entry_part(image, rules.kind, rules.window, at, e),
-    );
-    lent::put(row, 0, &values);
+    let part = entries::entry_part(image, rules.kind, rules.window, at, e);
+    let values = row_of(e, part);
+    row.copy_from_slice(&values);
 }
 
 // Writes the rows behind the directory's words, one after the other.
@@ -76,39 +68,34 @@ fn put_rows(image: &[u8], d: Directory, words: &mut [u64])
     ensures { words.new ≡ take 3 words.old ++ rows_from (rules_of image.now) image.now d d.total 0 ++ drop (3 + 8 * d.total) words.old }
 {
     let n = d.total();
-    let mut i: u32 = 0;
-    while i < n {
+    for i in 0..n {
         let from = HEAD + ROW * (i as usize);
         put_entry(image, d, i, &mut words[from..from + ROW]);
-        i += 1;
     }
 }
 
 // Writes a directory, which lies in the image, and all its rows; 12, and nothing written, where they do not fit.
-fn put_entries(image: &[u8], d: Directory, words: &mut [u64]) -> u64
+fn put_entries(image: &[u8], d: Directory, words: &mut [u64]) -> Result<(), Refusal>
     requires { (length image.now ≤ longest) × (entry_place psp_kind d.place.0 d.total ≤ length image.now) × (d.total ≤ 512) }
-    ensures value { result ≡ number_for 0 (lay_entries (rules_of image.now) image.now d) words.old }
+    ensures value { answered result ≡ number_for 0 (lay_entries (rules_of image.now) image.now d) words.old }
     ensures words_after { words.new ≡ words_for (lay_entries (rules_of image.now) image.now d) words.old }
 {
-    let total = d.total();
-    if words.len() < HEAD + ROW * (total as usize) {
-        return 12;
+    if words.len() < HEAD + ROW * (d.total() as usize) {
+        return Err(Refusal::Room);
     }
     put_rows(image, d, words);
-    let place = d.place();
-    let level = d.level();
-    let values = [place.0 as u64, level as u64, total as u64];
-    lent::put(words, 0, &values)
+    lent::put(words, &flash_words::directory_words(d))
 }
 
 // The directory's three words, place, level and total, then for each entry eight: type, subprogram, size, location and mode, then the number that refuses its
 // part, or 0, and where its bytes begin and how many they are, or 0 and 0.
-pub fn view_entries(image: &[u8], place: usize, words: &mut [u64]) -> u64
-    ensures value { result ≡ number_left (lay_entries (rules_of image.now) image.now) (check_at (rules_of image.now) image.now place) words.old }
+#[tactic(auto, using(place::proofs::View::nearest_directory, crate::proofs::Rows::near_in_image))]
+pub fn view_entries(image: &[u8], place: usize, words: &mut [u64]) -> Result<(), Refusal>
+    ensures value { answered result ≡ number_left (lay_entries (rules_of image.now) image.now) (check_at (rules_of image.now) image.now place) words.old }
     ensures words_after { words.new ≡ words_left (lay_entries (rules_of image.now) image.now) (check_at (rules_of image.now) image.now place) words.old }
 {
-    match view::check_from(image, Offset::nearest(place)) {
-        DirectoryAnswer::Given(d) => put_entries(image, d, words),
-        DirectoryAnswer::Refused(why) => lent::put_fault(words, why),
+    match View::at(image, Offset::nearest(place)).check() {
+        Ok(d) => put_entries(image, d, words),
+        Err(fault) => lent::put_fault(words, fault),
     }
 }

@@ -1,4 +1,3 @@
-pub mod Loops
 pub mod Checks
 pub mod Told
 pub mod Accept

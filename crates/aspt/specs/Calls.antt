@@ -1,16 +1,12 @@
 -- What a read gives, and what a table that is to be written is asked. Assumes nothing: these are definitions.
 use Rattle.std.specs.Prelude.{ℕ, ◌%◌, true, List, length, take, leb, eqb}
-use Rattle.reply.specs.Reply.{Reply, given, refused, alone, guard}
+use Rattle.reply.specs.Reply.{Reply, given, guard}
 use Rattle.le.specs.Field.{get}
 use Rattle.aspt.specs.Header as header
 use Rattle.aspt.specs.Header.{table_length}
 use Rattle.aspt.specs.Rules.{done, sum_of, space_checks, structure_checks, structures_checks}
 use Rattle.aspt.specs.Bytes.{structure_part, structure_in, length_fits, reserved_zero, table_in}
 use Rattle.aspt.specs.declared.Table.{Table}
-use Rattle.aspt.specs.declared.TableAnswer.{TableAnswer}
-use Rattle.aspt.specs.declared.TableAnswer.TheVariants as table_answer
-use Rattle.aspt.specs.declared.CheckAnswer.{CheckAnswer}
-use Rattle.aspt.specs.declared.CheckAnswer.TheVariants as check_answer
 
 -- the checks of the 52 bytes before the structures, in 112 bytes, and what comes after them
 unfoldable pub header_checks : {A : Type 0} → (s : List ℕ) → (rest : Reply A) → Reply A
@@ -45,13 +41,3 @@ unfoldable pub admit_of : Table → Reply Unit
 admit_of t =
     space_checks t.base t.pages
     (structures_checks t.pages t.first t.second t.third (λ _. true) (λ _. true) done)
-
--- what a read's answer tells
-abbrev pub told_table : TableAnswer → Reply Table
-told_table (table_answer.Given t) = given t
-told_table (table_answer.Refused why) = refused why.number alone
-
--- what the answer of checks tells, and that of a write
-abbrev pub told_check : CheckAnswer → Reply Unit
-told_check check_answer.Accepted = done
-told_check (check_answer.Refused why) = refused why.number alone

@@ -2,16 +2,17 @@
 // The places of fields are those of the source's tables: Table 3, and for the structures Tables 5, 7 and 8.
 #![tactic(auto)]
 
-ghost use Rattle.std.specs.Prelude.{◌≡◌, true, ◌&&◌, [], ◌∷◌, length, leb, eqb, ◌+◌, ◌*◌, ◌%◌, ◌^◌};
+ghost use Rattle.std.specs.Prelude.{◌≡◌, true, ◌&&◌, leb, eqb, ◌+◌, ◌*◌, ◌%◌, ◌^◌};
+ghost use Rattle.reply.specs.Reply.{told_alone};
 ghost use Rattle.aspt.specs.Rules.{done, sum_of, fresh, id_fits, in_space, registers_fit, structure_checks, structures_checks};
-ghost use Rattle.aspt.specs.Header.{table_length};
-ghost use Rattle.aspt.specs.Bytes.{structure_in, reserved_zero, table_with, table_in};
-ghost use Rattle.aspt.specs.Calls.{header_checks, part_checks, parts_checks, table_of, read_of, admit_of, told_table, told_check};
+ghost use Rattle.aspt.specs.Bytes.{structure_in, reserved_zero, table_in};
+ghost use Rattle.aspt.specs.Calls.{header_checks, part_checks, parts_checks, table_of, read_of, admit_of};
 
 use reply::Refusal;
 
 // One of the three structures: its type, type 1's ID byte, and its register offsets in the order of the source's table.
 // A field that the type lacks is no part of it: read, it is 0; written, it is neither looked at nor kept.
+// The type is a number and no enum, since a caller may give any, and one that is no type is refused in its turn among the checks.
 #[derive(Clone, Copy)]
 pub struct Structure {
     pub class: u16,
@@ -28,9 +29,6 @@ impl Structure {
     pub const SEV: u16 = 1;
 
     pub const ACPI: u16 = 2;
-
-    // no structure's type: it stands for one not yet seen
-    const NONE: u16 = 3;
 
     // a structure's bytes
     pub const LENGTH: usize = 20;
@@ -111,68 +109,36 @@ impl Table {
     pub const THIRD: usize = Table::SECOND + Structure::LENGTH;
 }
 
-// What a read answers.
-#[derive(Clone, Copy)]
-pub enum TableAnswer {
-    Given(Table),
-    Refused(Refusal),
-}
-
-// What checks answer, and a write.
-#[derive(Clone, Copy)]
-pub enum CheckAnswer {
-    Accepted,
-    Refused(Refusal),
-}
-
 // The sum of the bytes, modulo 256.
 fn sum_of(bytes: &[u8]) -> u8
     ensures { result ≡ sum_of bytes.now % 256 }
 {
-    let mut sum: u8 = 0;
-    let mut i: usize = 0;
-    while i < bytes.len() {
-        sum = (((sum as u16) + (bytes[i] as u16)) % 256) as u8;
-        i += 1;
-    }
-    sum
+    bytes
+        .iter()
+        .fold(0, |sum: u8, byte| sum.wrapping_add(*byte))
 }
 
-// Is a type from 0 to 2, and neither of the two seen before?
-fn class_fits(class: u16, also: u16, seen: u16) -> bool
-    ensures { result ≡ (leb class 2 && fresh (also ∷ seen ∷ []) class) }
+// Is a type from 0 to 2, and none of those seen before?
+fn class_fits(class: u16, seen: &[u16]) -> bool
+    ensures { result ≡ (leb class 2 && fresh seen.now class) }
 {
-    if class <= Structure::ACPI {
-        if also == class { false } else { seen != class }
-    } else {
-        false
-    }
+    class <= Structure::ACPI && !seen.contains(&class)
 }
 
 // Does a register of four bytes at this offset lie in the register space?
 fn in_space(pages: u32, offset: u32) -> bool
     ensures { result ≡ in_space pages offset }
 {
-    (offset as u64) + 4 <= 4096 * (pages as u64)
+    u64::from(offset) + 4 <= 4096 * u64::from(pages)
 }
 
 // Do the registers that a structure's type has lie in the register space?
+#[tactic(auto, unfolding(crate::specs::Rules::registers_fit))]
 fn registers_fit(pages: u32, st: Structure) -> bool
     ensures { result ≡ registers_fit pages st }
 {
-    if in_space(pages, st.first) {
-        if st.class == Structure::ACPI {
-            true
-        } else {
-            if in_space(pages, st.second) {
-                in_space(pages, st.third)
-            } else {
-                false
-            }
-        }
-    } else {
-        false
-    }
+    in_space(pages, st.first)
+        && (st.class == Structure::ACPI || in_space(pages, st.second) && in_space(pages, st.third))
 }
 
 // Is the base address a multiple of 4,096, and does the register space end at 2^64 or before?
@@ -180,41 +146,36 @@ fn registers_fit(pages: u32, st: Structure) -> bool
 fn space_fits(base: u64, pages: u32) -> bool
     ensures { result ≡ (eqb (base % 4096) 0 && leb (base + 4096 * pages) (2 ^ 64)) }
 {
-    if base % 4096 == 0 {
-        base / 4096 + (pages as u64) <= 0x10_0000_0000_0000
-    } else {
-        false
-    }
+    base % 4096 == 0 && base / 4096 + u64::from(pages) <= 0x10_0000_0000_0000
 }
 
 // The checks of a table's first 52 bytes.
-fn header_checks(table: &[u8]) -> CheckAnswer
-    ensures { told_check result ≡ header_checks table.now done }
+#[tactic(auto, unfolding(crate::specs::Calls::header_checks))]
+fn header_checks(table: &[u8]) -> Result<(), Refusal>
+    ensures { told_alone result ≡ header_checks table.now done }
 {
     if le::u32_at(table, Table::SIGNATURE) != Table::ASPT {
-        return CheckAnswer::Refused(Refusal::SIGNATURE);
+        return Err(Refusal::Signature);
     }
     if le::u32_at(table, Table::WHOLE_LENGTH) as usize != Table::LENGTH {
-        return CheckAnswer::Refused(Refusal::LIMITS);
+        return Err(Refusal::Limits);
     }
     if le::u8_at(table, Table::REVISION) != 2 {
-        return CheckAnswer::Refused(Refusal::FIELD);
+        return Err(Refusal::Field);
     }
     if sum_of(table) != 0 {
-        return CheckAnswer::Refused(Refusal::CHECKSUM);
+        return Err(Refusal::Checksum);
     }
-    if space_fits(
+    if !space_fits(
         le::u64_at(table, Table::BASE),
         le::u32_at(table, Table::PAGES),
     ) {
-        if le::u32_at(table, Table::COUNT) == 3 {
-            CheckAnswer::Accepted
-        } else {
-            CheckAnswer::Refused(Refusal::LIMITS)
-        }
-    } else {
-        CheckAnswer::Refused(Refusal::FIELD)
+        return Err(Refusal::Field);
     }
+    if le::u32_at(table, Table::COUNT) != 3 {
+        return Err(Refusal::Limits);
+    }
+    Ok(())
 }
 
 // A structure as its 20 bytes have it.
@@ -230,74 +191,74 @@ fn structure_in(part: &[u8]) -> Structure
     }
 }
 
-// Are the reserved bytes of a structure zero, and type 1's ID byte 0x01? That byte and the reserved ones behind it are one number.
-fn fields_fit(part: &[u8]) -> bool
-    ensures { result ≡ (reserved_zero part.now && id_fits (structure_in part.now)) }
+// Are the reserved bytes of a structure zero?
+#[tactic(auto, unfolding(crate::specs::Bytes::reserved_zero))]
+fn reserved_zero(part: &[u8]) -> bool
+    ensures { result ≡ reserved_zero part.now }
 {
-    let class = le::u16_at(part, Structure::CLASS);
     let four = le::u32_at(part, Structure::ID);
-    if class == Structure::SEV {
-        return four == 1;
-    }
-    if four != 0 {
-        return false;
-    }
-    if class == Structure::ACPI {
-        le::u64_at(part, Structure::RESERVED12) == 0
-    } else {
-        true
+    match le::u16_at(part, Structure::CLASS) {
+        Structure::SEV => four / 0x100 == 0,
+        Structure::ACPI => four == 0 && le::u64_at(part, Structure::RESERVED12) == 0,
+        _ => four == 0,
     }
 }
 
-// The checks of one structure where it lies, given the types of the two before it.
-fn part_checks(part: &[u8], pages: u32, also: u16, seen: u16) -> CheckAnswer
-    ensures { told_check result ≡ part_checks pages (also ∷ seen ∷ []) part.now done }
+// Is the ID byte of type 1 0x01?
+#[tactic(auto, unfolding(crate::specs::Rules::id_fits))]
+fn id_fits(st: Structure) -> bool
+    ensures { result ≡ id_fits st }
 {
-    if le::u16_at(part, Structure::WHOLE_LENGTH) as usize != Structure::LENGTH {
-        return CheckAnswer::Refused(Refusal::STRUCTURE);
-    }
-    let st = structure_in(part);
-    if class_fits(st.class, also, seen) {
-        if fields_fit(part) {
-            if registers_fit(pages, st) {
-                CheckAnswer::Accepted
-            } else {
-                CheckAnswer::Refused(Refusal::OUTSIDE)
-            }
-        } else {
-            CheckAnswer::Refused(Refusal::FIELD)
-        }
-    } else {
-        CheckAnswer::Refused(Refusal::STRUCTURE)
-    }
+    st.class != Structure::SEV || st.id == 1
 }
 
-// The checks of a table's structures, one after the other. Called from one place, the checks of one are not made a call of their own.
-fn parts_checks(table: &[u8]) -> CheckAnswer
-    requires { length table.now ≡ table_length }
-    ensures { told_check result ≡ parts_checks table.now done }
+// The checks of one structure of the right length, given the types of those before it; `clear` where its reserved bytes are zero.
+#[tactic(auto, unfolding(crate::specs::Rules::structure_checks))]
+fn structure_checks(pages: u32, seen: &[u16], st: Structure, clear: bool) -> Result<(), Refusal>
+    ensures { told_alone result ≡ structure_checks pages seen.now st true clear done }
+{
+    if !class_fits(st.class, seen) {
+        return Err(Refusal::Structure);
+    }
+    if !clear || !id_fits(st) {
+        return Err(Refusal::Field);
+    }
+    if !registers_fit(pages, st) {
+        return Err(Refusal::Outside);
+    }
+    Ok(())
+}
+
+// The checks of one structure where it lies, given the types of those before it.
+#[tactic(auto, unfolding(crate::specs::Rules::structure_checks))]
+fn part_checks(part: &[u8], pages: u32, seen: &[u16]) -> Result<(), Refusal>
+    ensures { told_alone result ≡ part_checks pages seen.now part.now done }
+{
+    if usize::from(le::u16_at(part, Structure::WHOLE_LENGTH)) != Structure::LENGTH {
+        return Err(Refusal::Structure);
+    }
+    structure_checks(pages, seen, structure_in(part), reserved_zero(part))
+}
+
+// The checks of a table's structures, one after the other.
+#[tactic(auto, using(crate::proofs::Checks::parts_all, crate::proofs::Checks::parts_end))]
+fn parts_checks(table: &[u8; Table::LENGTH]) -> Result<(), Refusal>
+    ensures { told_alone result ≡ parts_checks table.now done }
 {
     let pages = le::u32_at(table, Table::PAGES);
-    let mut also = Structure::NONE;
-    let mut seen = Structure::NONE;
-    let mut i: usize = 0;
-    while i < 3 {
+    let mut seen = [0; 3];
+    for i in 0..3 {
         let at = Table::STRUCTURES + Structure::LENGTH * i;
-        match part_checks(&table[at..at + Structure::LENGTH], pages, also, seen) {
-            CheckAnswer::Refused(why) => return CheckAnswer::Refused(why),
-            CheckAnswer::Accepted => {
-                also = seen;
-                seen = le::u16_at(table, at + Structure::CLASS);
-                i += 1;
-            }
-        }
+        let part = &table[at..at + Structure::LENGTH];
+        part_checks(part, pages, &seen[..i])?;
+        seen[i] = le::u16_at(part, Structure::CLASS);
     }
-    CheckAnswer::Accepted
+    Ok(())
 }
 
-// A table with these structures, as the bytes before them have it.
-fn table_with(table: &[u8], first: Structure, second: Structure, third: Structure) -> Table
-    ensures { result ≡ table_with table.now first second third }
+// A table as its bytes have it.
+fn table_in(table: &[u8; Table::LENGTH]) -> Table
+    ensures { result ≡ table_in table.now }
 {
     Table {
         oem_low: le::u32_at(table, Table::OEM_LOW),
@@ -308,100 +269,43 @@ fn table_with(table: &[u8], first: Structure, second: Structure, third: Structur
         creator_revision: le::u32_at(table, Table::CREATOR_REVISION),
         base: le::u64_at(table, Table::BASE),
         pages: le::u32_at(table, Table::PAGES),
-        first,
-        second,
-        third,
+        first: structure_in(&table[Table::FIRST..Table::SECOND]),
+        second: structure_in(&table[Table::SECOND..Table::THIRD]),
+        third: structure_in(&table[Table::THIRD..Table::LENGTH]),
     }
-}
-
-// A table as its bytes have it.
-fn table_in(table: &[u8]) -> Table
-    requires { length table.now ≡ table_length }
-    ensures { result ≡ table_in table.now }
-{
-    table_with(
-        table,
-        structure_in(&table[Table::FIRST..Table::SECOND]),
-        structure_in(&table[Table::SECOND..Table::THIRD]),
-        structure_in(&table[Table::THIRD..Table::LENGTH]),
-    )
 }
 
 // The table that 112 bytes hold.
-fn table_of(table: &[u8]) -> TableAnswer
-    requires { length table.now ≡ table_length }
-    ensures { told_table result ≡ table_of table.now }
+#[tactic(auto, using(crate::proofs::Checks::header_by, crate::proofs::Checks::structures_by), unfolding(crate::specs::Calls::table_of))]
+fn table_of(table: &[u8; Table::LENGTH]) -> Result<Table, Refusal>
+    ensures { told_alone result ≡ table_of table.now }
 {
-    match header_checks(table) {
-        CheckAnswer::Refused(why) => TableAnswer::Refused(why),
-        CheckAnswer::Accepted => match parts_checks(table) {
-            CheckAnswer::Refused(why) => TableAnswer::Refused(why),
-            CheckAnswer::Accepted => TableAnswer::Given(table_in(table)),
-        },
-    }
+    header_checks(table)?;
+    parts_checks(table)?;
+    Ok(table_in(table))
 }
 
 // Reads the table from the first 112 lent bytes; more are ignored.
-pub fn read(bytes: &[u8]) -> TableAnswer
-    ensures { told_table result ≡ read_of bytes.now }
+#[tactic(auto, unfolding(crate::specs::Calls::read_of))]
+pub fn read(bytes: &[u8]) -> Result<Table, Refusal>
+    ensures { told_alone result ≡ read_of bytes.now }
 {
-    let lent = bytes.len();
-    if lent < Table::LENGTH {
-        return TableAnswer::Refused(Refusal::SHORT);
-    }
-    table_of(&bytes[..Table::LENGTH])
+    let Some(table) = bytes.first_chunk() else {
+        return Err(Refusal::Short);
+    };
+    table_of(table)
 }
 
-// Is the ID byte of type 1 0x01?
-fn id_fits(st: Structure) -> bool
-    ensures { result ≡ id_fits st }
+// The checks of a table that is to be written: length and reserved bytes are the writer's own.
+#[tactic(auto, using(crate::proofs::Checks::structure_by), unfolding(crate::specs::Calls::admit_of, crate::specs::Rules::structures_checks))]
+pub fn admit(table: Table) -> Result<(), Refusal>
+    ensures { told_alone result ≡ admit_of table }
 {
-    if st.class == Structure::SEV {
-        st.id == 1
-    } else {
-        true
+    if !space_fits(table.base, table.pages) {
+        return Err(Refusal::Field);
     }
-}
-
-// The checks of one structure that is to be written, given the types of the two before it.
-fn structure_checks(st: Structure, pages: u32, also: u16, seen: u16) -> CheckAnswer
-    ensures { told_check result ≡ structure_checks pages (also ∷ seen ∷ []) st true true done }
-{
-    if class_fits(st.class, also, seen) {
-        if id_fits(st) {
-            if registers_fit(pages, st) {
-                CheckAnswer::Accepted
-            } else {
-                CheckAnswer::Refused(Refusal::OUTSIDE)
-            }
-        } else {
-            CheckAnswer::Refused(Refusal::FIELD)
-        }
-    } else {
-        CheckAnswer::Refused(Refusal::STRUCTURE)
-    }
-}
-
-// The checks of the three structures, one after the other.
-fn structures_checks(pages: u32, a: Structure, b: Structure, c: Structure) -> CheckAnswer
-    ensures { told_check result ≡ structures_checks pages a b c (λ _. true) (λ _. true) done }
-{
-    match structure_checks(a, pages, Structure::NONE, Structure::NONE) {
-        CheckAnswer::Refused(why) => CheckAnswer::Refused(why),
-        CheckAnswer::Accepted => match structure_checks(b, pages, Structure::NONE, a.class) {
-            CheckAnswer::Refused(why) => CheckAnswer::Refused(why),
-            CheckAnswer::Accepted => structure_checks(c, pages, a.class, b.class),
-        },
-    }
-}
-
-// The checks of a table that is to be written.
-pub fn admit(table: Table) -> CheckAnswer
-    ensures { told_check result ≡ admit_of table }
-{
-    if space_fits(table.base, table.pages) {
-        structures_checks(table.pages, table.first, table.second, table.third)
-    } else {
-        CheckAnswer::Refused(Refusal::FIELD)
-    }
+    let (a, b, c) = (table.first, table.second, table.third);
+    structure_checks(table.pages, &[], a, true)?;
+    structure_checks(table.pages, &[a.class], b, true)?;
+    structure_checks(table.pages, &[a.class, b.class], c, true)
 }

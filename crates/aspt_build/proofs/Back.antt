@@ -24,16 +24,12 @@ use Rattle.aspt.specs.declared.Structure.{Structure}
 use Rattle.aspt.specs.declared.Table.{Table}
 use Rattle.aspt.proofs.Checks.{admit_then}
 use Rattle.aspt_build.proofs.Written.{table_long}
+use Rattle.aspt_build.proofs.SumLaws.{sum_append}
 use Rattle.aspt_build.proofs.Parts.{FoundIn, found_back, three_own, own_again, structure_again}
 use Rattle.aspt.proofs.Accept.{read_acceptance}
 use Rattle.aspt_build.proofs.Accept.{write_acceptance}
 
 -- the sum of bytes that follow one another
-sum_append : (xs ys : List ℕ) → sum_of (xs ++ ys) ≡ sum_of xs + sum_of ys
-unfolding sum_of
-sum_append [] ys = omega arith
-sum_append (x ∷ xs) ys = omega (arith, sum_append xs ys)
-
 sum_between : (xs ys : List ℕ) (x : ℕ) → sum_of (xs ++ (x ∷ ys)) ≡ x + (sum_of xs + sum_of ys)
 unfolding sum_of
 sum_between xs ys x = omega (arith, sum_append xs (x ∷ ys))

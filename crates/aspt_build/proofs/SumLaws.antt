@@ -12,7 +12,7 @@ use Rattle.aspt.specs.declared.Structure.{Structure}
 use Rattle.aspt.specs.declared.Table.{Table}
 use Rattle.aspt_build.proofs.Written.{joined_bytes, front_bytes}
 
-sum_append : (us vs : List ℕ) → sum_of (us ++ vs) ≡ sum_of us + sum_of vs
+pub sum_append : (us vs : List ℕ) → sum_of (us ++ vs) ≡ sum_of us + sum_of vs
 unfolding sum_of
 sum_append [] vs = omega arith
 sum_append (u ∷ us) vs = omega (arith, sum_append us vs)

@@ -1,15 +1,19 @@
 -- What the writer's steps leave: the table's 112 bytes, and the bytes after them. Assumes nothing.
 use mathlib.Core.Path.{◌≡◌, refl, sym, ap, ◌∙◌}
-use mathlib.Core.List.{List, [], ◌++◌, append_assoc}
-use Prim.Native.Nat.{ℕ, ◌+◌, ◌*◌, ◌/◌, ◌%◌, ◌≤◌, ◌<◌}
+use mathlib.Core.Bool.{Bool, true, false, cond}
+use mathlib.Core.List.{List, [], ◌++◌, append_assoc, append-nil}
+use Prim.Native.Nat.{ℕ, ◌+◌, ◌*◌, ◌-◌, ◌/◌, ◌%◌, ◌≤◌, ◌<◌}
 use native.Mathlib.Omega.{arith}
-use lib.ListN.{length, take, drop, length-append}
+use lib.Dec.{eqb}
+use lib.ListN.{length, take, drop, length-append, drop_of_length-le}
 use lib.Seq.{drop-drop}
 use borrow.Rule.Slice.PartMut.{put_mid}
 use Rattle.le.specs.Le.{le_bytes, put_bytes, bytes_of}
 use Rattle.le.proofs.Put.{put_some, put_join, bytes_split}
 use Rattle.le.proofs.Back.{put_long}
-use Rattle.aspt_build.specs.Write.{structure_fields, structure_bytes, identity_fields, maker_fields, space_fields, bytes_with}
+use Rattle.aspt.specs.Rules.{sum_of}
+use Rattle.aspt_build.specs.Write.{own_of, structure_fields, structure_bytes, identity_fields, maker_fields, space_fields, bytes_with, checksum_of, table_bytes}
+use Rattle.aspt_build.specs.Back.{own_table}
 use Rattle.aspt.specs.declared.Structure.{Structure}
 use Rattle.aspt.specs.declared.Table.{Table}
 
@@ -52,12 +56,12 @@ pub table_long : (sum : ℕ) (t : Table) → length (bytes_with sum t) ≡ 112
 unfolding bytes_with structure_bytes bytes_of le_bytes
 table_long sum t = refl
 
-module _ (sum : ℕ) (t : Table) (s : List ℕ) (h : 112 ≤ length s) where
+module _ (sum : ℕ) (t : Table) (s : List ℕ) (h : length s ≡ 112) where
   pub fields_written :
       put_mid 92 20 (put_mid 72 20 (put_mid 52 20
       (put_bytes (bytes_of (space_fields t)) (put_bytes (bytes_of (maker_fields t)) (put_bytes (bytes_of (identity_fields sum)) s 0) 10) 36)
       (structure_bytes t.first)) (structure_bytes t.second)) (structure_bytes t.third)
-      ≡ bytes_with sum t ++ drop 112 s
+      ≡ bytes_with sum t
   unfolding bytes_with structure_bytes bytes_of le_bytes
   fields_written =
       let u = bytes_of (identity_fields sum) in
@@ -66,7 +70,46 @@ module _ (sum : ℕ) (t : Table) (s : List ℕ) (h : 112 ≤ length s) where
       let a = structure_bytes t.first in
       let b = structure_bytes t.second in
       let c = structure_bytes t.third in
-      six u v w a b c s refl refl refl refl refl refl h ∙ put_some (u ++ v ++ w ++ a ++ b ++ c) s 0 h
+      let none : drop 112 s ≡ [] = drop_of_length-le s {i = 112} (omega arith) in
+      six u v w a b c s refl refl refl refl refl refl (omega arith) ∙ put_some (u ++ v ++ w ++ a ++ b ++ c) s 0 (omega arith) ∙ rw none (append-nil _)
+
+-- what the type has, taken twice
+own_twice : (st : Structure) → own_of (own_of st) ≡ own_of st
+unfolding own_of
+own_twice st =
+    λ i. record {
+      class = st.class;
+      id = id (eqb st.class 1) i;
+      first = st.first;
+      second = register (eqb st.class 2) st.second i;
+      third = register (eqb st.class 2) st.third i;
+    }
+  where
+    id : (b : Bool) → cond b (cond b st.id 0) 0 ≡ cond b st.id 0
+    id true = refl
+    id false = refl
+
+    register : (b : Bool) (x : ℕ) → cond b 0 (cond b 0 x) ≡ cond b 0 x
+    register true x = refl
+    register false x = refl
+
+pub own_table_twice : (t : Table) {o : Table} → o ≡ own_table t → own_table o ≡ o
+own_table_twice t e = ap own_table e ∙ (λ i. record (own_table t) { first = own_twice t.first i; second = own_twice t.second i; third = own_twice t.third i }) ∙ sym e
+
+-- a table is written as what its types have is written
+module _ (t : Table) where
+  own_with : (sum : ℕ) → bytes_with sum (own_table t) ≡ bytes_with sum t
+  unfolding bytes_with structure_bytes
+  own_with sum =
+      λ i. bytes_of (identity_fields sum ++ (maker_fields t ++ space_fields t))
+      ++ (bytes_of (structure_fields (own_twice t.first i)) ++ (bytes_of (structure_fields (own_twice t.second i)) ++ bytes_of (structure_fields (own_twice t.third i))))
+
+  pub own_checksum : checksum_of (own_table t) ≡ checksum_of t
+  own_checksum = ap (λ (bytes : List ℕ). (256 - sum_of bytes % 256) % 256) (own_with 0)
+
+  pub own_bytes : table_bytes (own_table t) ≡ table_bytes t
+  unfolding table_bytes
+  own_bytes = ap (λ (sum : ℕ). bytes_with sum (own_table t)) own_checksum ∙ own_with (checksum_of t)
 
 -- two numbers of four bytes as one of eight
 pub joined_bytes : (low high : ℕ) → low < 0x1_0000_0000 → le_bytes 8 (low + 0x1_0000_0000 * high) ≡ le_bytes 4 low ++ le_bytes 4 high

@@ -2,39 +2,43 @@
 // The places of fields are those of the source's tables: Table 3, and for the structures Tables 5, 7 and 8.
 #![tactic(auto)]
 
-ghost use Rattle.std.specs.Prelude.{◌≡◌, ◌++◌, length, drop, ◌+◌, ◌*◌, ◌/◌, ◌%◌, ◌≤◌};
+ghost use Rattle.std.specs.Prelude.{◌≡◌, ◌++◌, length, ◌+◌, ◌*◌, ◌/◌, ◌%◌, ◌≤◌};
+ghost use Rattle.reply.specs.Reply.{told_alone};
 ghost use Rattle.le.specs.Le.{le_bytes, put_bytes, bytes_of};
-ghost use Rattle.aspt.specs.Header.{table_length};
 ghost use Rattle.aspt.specs.Structure.{structure_length};
 ghost use Rattle.aspt.specs.Rules.{sum_of};
-ghost use Rattle.aspt.specs.Calls.{told_check};
 ghost use Rattle.aspt_build.specs.Write.{own_of, structure_fields, identity_fields, maker_fields, space_fields, checksum_of, table_bytes, write_of, written_by};
+ghost use Rattle.aspt_build.specs.Back.{own_table};
 
-use aspt::{CheckAnswer, Structure, Table};
+use aspt::{Structure, Table};
 use reply::Refusal;
 
 // A structure with the fields that its type has, and 0 in those that it lacks.
+#[tactic(auto, unfolding(crate::specs::Write::own_of))]
 fn own(st: Structure) -> Structure
     ensures { result ≡ own_of st }
 {
-    if st.class == Structure::SEV {
-        return st;
-    }
-    if st.class == Structure::ACPI {
-        return Structure {
-            class: st.class,
+    match st.class {
+        Structure::SEV => st,
+        Structure::ACPI => Structure {
             id: 0,
-            first: st.first,
             second: 0,
             third: 0,
-        };
+            ..st
+        },
+        _ => Structure { id: 0, ..st },
     }
-    Structure {
-        class: st.class,
-        id: 0,
-        first: st.first,
-        second: st.second,
-        third: st.third,
+}
+
+// A table with such structures.
+fn own_table(t: Table) -> Table
+    ensures { result ≡ own_table t }
+{
+    Table {
+        first: own(t.first),
+        second: own(t.second),
+        third: own(t.third),
+        ..t
     }
 }
 
@@ -50,6 +54,7 @@ fn alternate(x: u64) -> u64
 
 // A number's eight bytes added up two by two: four sums of at most 0x1FE, with 16 bits each. Such numbers are added as they are, while 16 bits hold each
 // sum; and modulo 65,535, where 2^16 is 1, they are the sum of all their bytes.
+#[tactic(auto, using(crate::proofs::SumLaws::pairs_are))]
 fn pairs(x: u64) -> u64
     ensures result_value { result % 65535 ≡ sum_of (le_bytes 8 x) }
     ensures upper_bound { result ≤ 0x1FE_01FE_01FE_01FE }
@@ -61,17 +66,18 @@ fn pairs(x: u64) -> u64
 fn joined(low: u32, high: u32) -> u64
     ensures { result ≡ low + 0x1_0000_0000 * high }
 {
-    (low as u64) + 0x1_0000_0000 * (high as u64)
+    u64::from(low) + 0x1_0000_0000 * u64::from(high)
 }
 
 // A structure's type, its length 20, its ID byte and three zeros, which are its first eight bytes, as one number.
 fn front(st: Structure) -> u64
     ensures { result ≡ st.class + 0x14_0000 + 0x1_0000_0000 * st.id }
 {
-    (st.class as u64) + 0x14_0000 + 0x1_0000_0000 * (st.id as u64)
+    joined(u32::from(st.class) + 0x14_0000, u32::from(st.id))
 }
 
 // The bytes of two numbers of four bytes, added up like those of one of eight.
+#[tactic(auto, using(crate::proofs::SumLaws::joined_sum))]
 fn joined_pairs(low: u32, high: u32) -> u64
     ensures result_value { result % 65535 ≡ sum_of (le_bytes 4 low) + sum_of (le_bytes 4 high) }
     ensures upper_bound { result ≤ 0x1FE_01FE_01FE_01FE }
@@ -84,7 +90,7 @@ fn header_pairs(t: Table) -> u64
     ensures result_value { result % 65535 ≡ sum_of (bytes_of (identity_fields 0 ++ (maker_fields t ++ space_fields t))) }
     ensures upper_bound { result ≤ 0xBF4_0BF4_0BF4_0D9E }
 {
-    joined_pairs(t.oem_low, t.oem_high as u32)
+    joined_pairs(t.oem_low, u32::from(t.oem_high))
         + pairs(t.oem_table)
         + joined_pairs(t.oem_revision, t.creator)
         + joined_pairs(t.creator_revision, 0)
@@ -94,6 +100,7 @@ fn header_pairs(t: Table) -> u64
 }
 
 // A structure's bytes, added up in the same way.
+#[tactic(auto, using(crate::proofs::SumLaws::structure_is))]
 fn structure_pairs(st: Structure) -> u64
     ensures result_value { result % 65535 ≡ sum_of (bytes_of (structure_fields st)) }
     ensures upper_bound { result ≤ 0x5FA_05FA_05FA_05FA }
@@ -101,13 +108,16 @@ fn structure_pairs(st: Structure) -> u64
     pairs(front(st)) + joined_pairs(st.first, st.second) + joined_pairs(st.third, 0)
 }
 
-// The checksum of a table, from its fields and its structures with the fields that they have: bytes that are read right after they are written make the read wait.
-// The 112 bytes come to 28,560 at most, so that modulo 65,535 nothing of their sum is lost.
-fn checksum(t: Table, a: Structure, b: Structure, c: Structure) -> u8
-    requires { (a ≡ own_of t.first) × (b ≡ own_of t.second) × (c ≡ own_of t.third) }
+// The checksum of a table whose structures have 0 in the fields that their types lack, from its fields: bytes that are read right after they are written
+// make the read wait. The 112 bytes come to 28,560 at most, so that modulo 65,535 nothing of their sum is lost.
+fn checksum(t: Table) -> u8
+    requires { own_table t ≡ t }
     ensures { result ≡ checksum_of t }
 {
-    let sum = (header_pairs(t) + structure_pairs(a) + structure_pairs(b) + structure_pairs(c))
+    let sum = (header_pairs(t)
+        + structure_pairs(t.first)
+        + structure_pairs(t.second)
+        + structure_pairs(t.third))
         % 65535;
     ((256 - sum % 256) % 256) as u8
 }
@@ -123,8 +133,7 @@ fn put_structure(part: &mut [u8], st: Structure)
 }
 
 // Writes what the table is: signature, length, revision and checksum.
-fn put_identity(buf: &mut [u8], sum: u8)
-    requires { table_length ≤ length buf.old }
+fn put_identity(buf: &mut [u8; Table::LENGTH], sum: u8)
     ensures { buf.new ≡ put_bytes (bytes_of (identity_fields sum)) buf.old 0 }
 {
     le::put32(buf, Table::SIGNATURE, Table::ASPT);
@@ -134,8 +143,7 @@ fn put_identity(buf: &mut [u8], sum: u8)
 }
 
 // Writes who made the table.
-fn put_maker(buf: &mut [u8], table: Table)
-    requires { table_length ≤ length buf.old }
+fn put_maker(buf: &mut [u8; Table::LENGTH], table: Table)
     ensures { buf.new ≡ put_bytes (bytes_of (maker_fields table)) buf.old 10 }
 {
     le::put32(buf, Table::OEM_LOW, table.oem_low);
@@ -147,8 +155,7 @@ fn put_maker(buf: &mut [u8], table: Table)
 }
 
 // Writes the register space, and how many structures follow.
-fn put_space(buf: &mut [u8], table: Table)
-    requires { table_length ≤ length buf.old }
+fn put_space(buf: &mut [u8; Table::LENGTH], table: Table)
     ensures { buf.new ≡ put_bytes (bytes_of (space_fields table)) buf.old 36 }
 {
     le::put64(buf, Table::BASE, table.base);
@@ -157,34 +164,28 @@ fn put_space(buf: &mut [u8], table: Table)
 }
 
 // Writes the table's 112 bytes. What the structures have is found once, for the checksum and for the bytes.
-fn put_table(buf: &mut [u8], table: Table)
-    requires { table_length ≤ length buf.old }
-    ensures { buf.new ≡ table_bytes table ++ drop table_length buf.old }
+fn put_table(buf: &mut [u8; Table::LENGTH], table: Table)
+    ensures { buf.new ≡ table_bytes table }
 {
-    let a = own(table.first);
-    let b = own(table.second);
-    let c = own(table.third);
-    put_identity(buf, checksum(table, a, b, c));
+    let table = own_table(table);
+    put_identity(buf, checksum(table));
     put_maker(buf, table);
     put_space(buf, table);
-    put_structure(&mut buf[Table::FIRST..Table::SECOND], a);
-    put_structure(&mut buf[Table::SECOND..Table::THIRD], b);
-    put_structure(&mut buf[Table::THIRD..Table::LENGTH], c);
+    put_structure(&mut buf[Table::FIRST..Table::SECOND], table.first);
+    put_structure(&mut buf[Table::SECOND..Table::THIRD], table.second);
+    put_structure(&mut buf[Table::THIRD..Table::LENGTH], table.third);
 }
 
 // Writes a table into the buffer's first 112 bytes and keeps the bytes after them; a refused write changes nothing.
-pub fn write(buf: &mut [u8], table: Table) -> CheckAnswer
-    ensures result_value { told_check result ≡ write_of table buf.old }
+#[tactic(auto, unfolding(crate::specs::Write::write_of))]
+pub fn write(buf: &mut [u8], table: Table) -> Result<(), Refusal>
+    ensures result_value { told_alone result ≡ write_of table buf.old }
     ensures buf_after { buf.new ≡ written_by table buf.old (write_of table buf.old) }
 {
-    match aspt::admit(table) {
-        CheckAnswer::Refused(why) => CheckAnswer::Refused(why),
-        CheckAnswer::Accepted => {
-            if buf.len() < Table::LENGTH {
-                return CheckAnswer::Refused(Refusal::ROOM);
-            }
-            put_table(buf, table);
-            CheckAnswer::Accepted
-        }
-    }
+    aspt::admit(table)?;
+    let Some(bytes) = buf.first_chunk_mut() else {
+        return Err(Refusal::Room);
+    };
+    put_table(bytes, table);
+    Ok(())
 }

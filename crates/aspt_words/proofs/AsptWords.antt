@@ -6,15 +6,13 @@ use Prim.Native.Nat.{ℕ, ◌+◌, ◌*◌, ◌/◌, ◌%◌, ◌^◌, ◌<◌, 
 use native.Mathlib.Omega.{arith}
 use lib.Dec.{leb, ltb, eqb}
 use lib.ListN.{length, take}
-use borrow.Author.Tests.{le-leb, lt-ltb, ltb-true}
-use Rattle.reply.specs.Reply.{Reply, given, refused, alone, guard, then}
-use Rattle.reply.proofs.ReplyLaws.{passed, failed, apart}
+use borrow.Author.Tests.{le-leb, lt-leb, lt-ltb, ltb-true}
+use Rattle.reply.specs.Reply.{refused, alone, guard}
+use Rattle.reply.proofs.ReplyLaws.{passed, failed}
 use Rattle.le.specs.Le.{Bytes}
 use Rattle.le.proofs.Laws.{le_small}
 use Rattle.le.proofs.Part.{part_bytes}
-use Rattle.aspt.specs.Rules.{space_checks}
 use Rattle.aspt.specs.Bytes.{structure_part, structure_in, table_in}
-use Rattle.aspt.specs.Calls.{read_of, admit_of}
 use Rattle.aspt.specs.declared.Structure.{Structure}
 use Rattle.aspt.specs.declared.Table.{Table}
 use Rattle.aspt.proofs.Accept.{read_acceptance}
@@ -67,6 +65,11 @@ module _ (t : Table) where
       by : (b : Bool) → table_fits t ≡ b → table_fits t ≡ false
       by true e = absurd (wide (table_only e))
       by false e = e
+
+-- too few words
+pub words_short : (words s : List ℕ) → length words < 22 → refused 1 alone ≡ write_words words s
+unfolding write_words
+words_short words s few = sym (failed _ _ _ _ (lt-leb 22 (length words) few))
 
 -- what a write of lent words answers, and the bytes that it leaves, with the table as the code holds it
 module _ (words s : List ℕ) (enough : 22 ≤ length words) where

@@ -2,33 +2,26 @@
 use mathlib.Core.Path.{◌≡◌, refl, sym, ap, ◌∙◌}
 use mathlib.Core.Bool.{Bool, true, false, cond, ◌&&◌, and-eq-true_iff}
 use mathlib.Core.List.{List, [], ◌∷◌, ◌++◌}
-use Prim.Native.Nat.{ℕ, ◌-◌, ◌%◌, ◌^◌, ◌≤◌, ◌<◌}
+use Prim.Native.Nat.{ℕ, ◌%◌, ◌^◌, ◌≤◌, ◌<◌}
 use native.Mathlib.Nat.{mod-eq_of_lt}
 use native.Mathlib.Omega.{arith}
 use lib.Dec.{leb, ltb, eqb}
 use lib.ListN.{length, drop}
-use borrow.Author.Tests.{leb-true, leb-false, le-leb, lt-leb, ltb-true, lt-ltb, eqb-true, eqb-false, eq-eqb, ne_eqb}
+use borrow.Author.Tests.{leb-true, leb-false, le-leb, lt-leb, ltb-true, lt-ltb, eqb-true, eqb-false, ne_eqb}
 use Rattle.reply.specs.Reply.{Reply, given, refused, alone, guard, then}
 use Rattle.aspt.specs.Header.{table_length}
-use Rattle.aspt.specs.Rules.{done, sum_of, space_checks, structure_checks, structures_checks}
+use Rattle.aspt.specs.Rules.{done, space_checks, structure_checks, structures_checks}
 use Rattle.aspt.specs.Calls.{admit_of}
 use Rattle.aspt.specs.Good.{GoodTable}
 use Rattle.aspt.specs.declared.Structure.{Structure}
 use Rattle.aspt.specs.declared.Table.{Table}
-use Rattle.aspt_build.specs.Write.{own_of, structure_fields, structure_bytes, identity_fields, maker_fields, space_fields, bytes_with, checksum_of, table_bytes, write_of, written_by}
+use Rattle.aspt_build.specs.Write.{own_of, table_bytes, write_of, written_by}
 use Rattle.aspt_build.specs.Back.{own_table}
+use Rattle.aspt_build.proofs.Written.{own_bytes}
 use Rattle.aspt_build.proofs.Parts.{own_checks, three_own}
 use Rattle.aspt_build.proofs.Accept.{write_acceptance}
-use Rattle.le.specs.Le.{bytes_of}
-use Rattle.aspt_words.specs.AsptTable.{structure_fits, table_fits, cut_structure, cut_table}
+use Rattle.aspt_words.specs.AsptTable.{structure_fits, cut_structure, cut_table}
 use Rattle.aspt_words.specs.Taken.{FitStructure, FitTable}
-
--- a type, as the code cuts it
-pub class_wide : (word : ℕ) → 0xFFFF < word → 65535 ≡ cond (leb word 65535) word 65535
-class_wide word h = rw (lt-leb word 65535 h)
-
-pub class_fits : (word : ℕ) → word ≤ 0xFFFF → word % 0x10000 ≡ cond (leb word 65535) word 65535
-class_fits word h = rw (le-leb word 65535 h) (mod-eq_of_lt (omega arith))
 
 -- the test of a structure, as facts
 module _ (st : Structure) where
@@ -134,38 +127,8 @@ module _ {A : Type 0} (pages : ℕ) where
       (λ second. ap (λ (k : ℕ). structure_checks pages (a.class ∷ k ∷ []) (cut c) true true rest) (cut_class b fb second)
       ∙ cut_checks (a.class ∷ b.class ∷ []) c rest rest fc (λ _. refl)))
 
--- what the type has, taken twice
-own_twice : (st : Structure) → own_of (own_of st) ≡ own_of st
-unfolding own_of
-own_twice st =
-    λ i. record {
-      class = st.class;
-      id = id (eqb st.class 1) i;
-      first = st.first;
-      second = register (eqb st.class 2) st.second i;
-      third = register (eqb st.class 2) st.third i;
-    }
-  where
-    id : (b : Bool) → cond b (cond b st.id 0) 0 ≡ cond b st.id 0
-    id true = refl
-    id false = refl
-
-    register : (b : Bool) (x : ℕ) → cond b 0 (cond b 0 x) ≡ cond b 0 x
-    register true x = refl
-    register false x = refl
-
 -- a table is written as what its types have is written
 module _ (t : Table) where
-  own_with : (sum : ℕ) → bytes_with sum (own_table t) ≡ bytes_with sum t
-  unfolding bytes_with structure_bytes
-  own_with sum =
-      λ i. bytes_of (identity_fields sum ++ (maker_fields t ++ space_fields t))
-      ++ (bytes_of (structure_fields (own_twice t.first i)) ++ (bytes_of (structure_fields (own_twice t.second i)) ++ bytes_of (structure_fields (own_twice t.third i))))
-
-  own_bytes : table_bytes (own_table t) ≡ table_bytes t
-  unfolding table_bytes
-  own_bytes = ap (λ (bytes : List ℕ). bytes_with ((256 - sum_of bytes % 256) % 256) (own_table t)) (own_with 0) ∙ own_with (checksum_of t)
-
   pub own_written : (s : List ℕ) → write_of (own_table t) s ≡ write_of t s
   unfolding write_of admit_of
   own_written s =
@@ -173,7 +136,7 @@ module _ (t : Table) where
       (ap (space_checks t.base t.pages) (three_own t.pages t.first t.second t.third done))
 
   pub own_left : (s : List ℕ) (d : Reply Unit) → written_by (own_table t) s d ≡ written_by t s d
-  own_left s (given x) = ap (λ (bytes : List ℕ). bytes ++ drop table_length s) own_bytes
+  own_left s (given x) = ap (λ (bytes : List ℕ). bytes ++ drop table_length s) (own_bytes t)
   own_left s (refused number carried) = refl
 
 -- a table that is cut is judged and written as it was

@@ -5,12 +5,12 @@ use mathlib.Core.List.{List}
 use mathlib.Core.Bool.{Bool, true, false, not}
 use Prim.Native.Nat.{ℕ, ◌+◌, ◌*◌, ◌^◌, ◌≤◌}
 use native.Mathlib.Omega.{arith}
-use borrow.Author.Tests.{leb-true, ltb-true, eqb-true, eqb-false, not-true}
+use borrow.Author.Tests.{leb-true, ltb-true, eqb-true, eqb-false, le-leb, lt-ltb, not-true}
 use lib.ListN.{length}
 use lib.Dec.{leb, ltb, eqb}
-use Rattle.reply.specs.Reply.{Reply, given, refused, then}
-use Rattle.reply.specs.Back.{fault_by}
-use Rattle.reply.proofs.ReplyLaws.{past, then_given, one_by, apart, fault_back}
+use Rattle.reply.specs.Reply.{Reply, given, then}
+use Rattle.reply.proofs.ReplyLaws.{past, passed, then_given, apart}
+use Rattle.reply.proofs.Told.{told_one}
 use Rattle.directory.specs.Directory.{psp_kind, may_stand, directory_of, directory_by_cookie}
 use Rattle.entries.specs.Entry.{entry_of, matches, holds_in}
 use Rattle.directory.specs.Good.{GoodDirectory}
@@ -20,23 +20,11 @@ use Rattle.reply.proofs.SomeLaws.{none_below, some_false}
 use Rattle.entries.proofs.Lowest.{match_says, match_holds}
 use Rattle.directory.proofs.Accept.{stand_fact, stand_test, there_from, there_to, cookie_acceptance}
 use Rattle.build.specs.declared.Fields.{Fields}
-use Rattle.build.specs.declared.TotalAnswer.{TotalAnswer}
-use Rattle.build.specs.declared.TotalAnswer.TheVariants as total_answer
-use Rattle.build.specs.Write.{start_of, room_for, extend_of, told_total}
+use Rattle.build.specs.Write.{start_of, room_for, extend_of}
 use Rattle.build.specs.Accept.{ToldApart, Startable, Extendable, WriteAcceptance}
-use Rattle.build.proofs.Cases.{start_room, room_given}
-
-total_back : Reply ℕ → TotalAnswer
-total_back (given total) = total_answer.Given total
-total_back (refused number carried) = total_answer.Refused (fault_by number carried)
 
 pub told_apart : ToldApart
-unfolding total_back
-told_apart = record { total = one_by told_total total_back back }
-  where
-    back : (x : TotalAnswer) → total_back (told_total x) ≡ x
-    back (total_answer.Given total) = refl
-    back (total_answer.Refused why) = ap (λ w. total_answer.Refused w) (fault_back why)
+told_apart = record { total = told_one }
 
 -- a level number from 1 to 2 is 1 or 2
 one_or_two : (level : ℕ) → 1 ≤ level → level ≤ 2 → (level ≡ 1) ⊎ (level ≡ 2)
@@ -55,7 +43,8 @@ start_only level s total e =
     (record { either = one_or_two level (leb-true _ _ a.0) (leb-true _ _ b.0); room = leb-true _ _ r.0 }, cc r.1)
 
 pub start_all : (level : ℕ) (s : List ℕ) → Startable level s → start_of level s ≡ given 0
-start_all level s g = sym (start_room level s (there_from level g.either) (there_to level g.either) g.room)
+unfolding start_of
+start_all level s g = rw (le-leb 1 level (there_from level g.either), le-leb level 2 (there_to level g.either), le-leb 16 (length s) g.room)
 
 pub extend_only : (f : Fields) (s : List ℕ) (total : ℕ) → extend_of f s ≡ given total → (level : ℕ) × (n : ℕ) × Extendable f s level n × (total ≡ n + 1)
 unfolding room_for
@@ -85,12 +74,16 @@ extend_only f s total e =
     )
 
 pub extend_all_lem : (f : Fields) (s : List ℕ) (level n : ℕ) → Extendable f s level n → extend_of f s ≡ given (n + 1)
+unfolding room_for
 extend_all_lem f s level n g =
     let fits = g.fits in
-    let l = fits.location in
     ap (λ (r : Reply Directory). then r (room_for f s)) (cookie_acceptance.all psp_kind 512 s (directory_of 0 level n) (λ e. omega arith) g.good)
-    ∙ sym (room_given f s (directory_of 0 level n) (omega arith) fits.mode psp_kind level true refl refl (sym (stand_test psp_kind level f.class fits.may_stand_lem)) refl false
-    (sym (some_false (λ j. matches (entry_of psp_kind s (directory_of 0 level n) j) f.class f.subprogram) n (λ j l. differs j (g.new j l)))) refl n refl g.few g.room)
+    ∙ passed _ _ _ _ (lt-ltb f.location (2 ^ 62) fits.location)
+    ∙ passed _ _ _ _ (le-leb f.mode 3 fits.mode)
+    ∙ passed _ _ _ _ (stand_test psp_kind level f.class fits.may_stand_lem)
+    ∙ passed _ _ _ _ (ap not (some_false (λ j. matches (entry_of psp_kind s (directory_of 0 level n) j) f.class f.subprogram) n (λ j l. differs j (g.new j l))))
+    ∙ passed _ _ _ _ (lt-ltb n 512 g.few)
+    ∙ passed _ _ _ _ (le-leb (16 + n * 16 + 16) (length s) g.room)
   where
     differs : (j : ℕ) → (Matches psp_kind s (directory_of 0 level n) f.class f.subprogram j → ⊥) → matches (entry_of psp_kind s (directory_of 0 level n) j) f.class f.subprogram ≡ false
     differs j never = by (matches (entry_of psp_kind s (directory_of 0 level n) j) f.class f.subprogram) refl

@@ -4,10 +4,10 @@ use mathlib.Core.List.{List, [], ◌∷◌, ◌++◌, append_assoc, append-nil}
 use mathlib.Core.Bool.{Bool, true, false, cond}
 use Prim.Native.Nat.{ℕ, ◌+◌, ◌*◌, ◌-◌, ◌/◌, ◌%◌, ◌^◌, ◌<◌, ◌≤◌}
 use native.Mathlib.Omega.{arith}
-use lib.ListN.{length, get_or, take, drop, length-append, take-append-drop}
+use lib.ListN.{length, take, drop, length-append, take-append-drop}
 use lib.Seq.{take_at, length-take-le}
 use lib.Dec.{eqb}
-use Rattle.le.specs.Le.{le_at, le_bytes, put_bytes, put_at, Bytes, Number, bytes_of}
+use Rattle.le.specs.Le.{le_at, le_bytes, put_bytes, put_at, Bytes, bytes_of}
 use Rattle.le.specs.Back.{Held}
 use Rattle.le.proofs.Laws.{le_small}
 use Rattle.le.proofs.Back.{put_over}

@@ -1,15 +1,15 @@
 -- When a start and an extend are accepted, as plain facts; and that exactly these are given. Assumes nothing: these are statements.
 use Rattle.std.specs.Prelude.{ℕ, ◌+◌, ◌*◌, ◌^◌, ◌<◌, ◌≤◌, ◌≡◌, ◌⊎◌, List, length}
-use Rattle.reply.specs.Reply.{given, OneToOne}
+use Rattle.reply.specs.Reply.{given, OneToOne, told}
 use Rattle.directory.specs.Directory.{psp_kind, directory_of}
 use Rattle.directory.specs.Good.{GoodDirectory}
 use Rattle.entries.specs.Good.{Matches}
 use Rattle.build.specs.declared.Fields.{Fields}
-use Rattle.build.specs.Write.{start_of, extend_of, told_total}
+use Rattle.build.specs.Write.{start_of, extend_of}
 
 -- no two answers tell the same
 pub record ToldApart : Type 0 where
-  pub total : OneToOne told_total
+  pub total : OneToOne (told {A = ℕ})
 
 -- a directory of this level can be started in s
 pub record Startable (level : ℕ) (s : List ℕ) : Type 0 where

@@ -3,15 +3,13 @@ use Rattle.std.specs.Prelude.{ℕ, ◌+◌, ◌*◌, ◌-◌, ◌^◌, List, [],
 use Rattle.le.specs.Le.{put_bytes, put_at, Number, bytes_of}
 use Rattle.le.specs.Field.{filled}
 use Rattle.fletcher.specs.Fletcher.{fletcher_of}
-use Rattle.reply.specs.Reply.{Reply, given, refused, carried_of, guard, then}
+use Rattle.reply.specs.Reply.{Reply, given, refused, guard, then}
 use Rattle.directory.specs.Header as header
 use Rattle.directory.specs.Entry as entry
 use Rattle.directory.specs.Directory.{psp_kind, cookie_of, may_stand, entry_place, checksum_at, directory_by_cookie}
 use Rattle.entries.specs.Entry.{holds_in}
 use Rattle.directory.specs.declared.Directory.{Directory}
 use Rattle.build.specs.declared.Fields.{Fields}
-use Rattle.build.specs.declared.TotalAnswer.{TotalAnswer}
-use Rattle.build.specs.declared.TotalAnswer.TheVariants as total_answer
 
 -- what the fields of an entry are to hold: no flag is set, and the address mode stands above the location's 62 bits
 abbrev pub entry_fields : Fields → List Number
@@ -74,8 +72,3 @@ lengthened f s total = put_at 4 total (put_bytes (entry_bytes f) s (entry_place 
 abbrev pub extended_by : Fields → (s : List ℕ) → Reply ℕ → List ℕ
 extended_by f s (given total) = put_at 4 (checksum_at psp_kind (lengthened f s total) 0 total) (lengthened f s total) (header.checksum).at
 extended_by f s (refused number carried) = s
-
--- what the answer tells
-abbrev pub told_total : TotalAnswer → Reply ℕ
-told_total (total_answer.Given total) = given total
-told_total (total_answer.Refused why) = refused why.number (carried_of why.met)

@@ -2,19 +2,19 @@
 #![tactic(auto)]
 
 ghost use Rattle.std.specs.Prelude.{◌≡◌, ◌+◌, ◌*◌, ◌-◌, ◌<◌, ◌≤◌, ◌^◌, length};
-ghost use Rattle.reply.specs.Reply.{given};
+ghost use Rattle.reply.specs.Reply.{given, told};
 ghost use Rattle.le.specs.Le.{put_bytes};
 ghost use Rattle.le.specs.Field.{get};
 ghost use Rattle.directory.specs.Header as header;
 ghost use Rattle.directory.specs.Directory.{psp_kind, total_at, checksum_at};
-ghost use Rattle.build.specs.Write.{entry_bytes, start_of, started_by, room_for, extend_of, extended_by, told_total};
+ghost use Rattle.build.specs.Write.{entry_bytes, start_of, started_by, room_for, extend_of, extended_by};
 
-use directory::{Directory, DirectoryAnswer, Kind};
-use reply::Fault;
+use directory::{Directory, Kind};
+use reply::{Fault, Refusal};
 use window::Offset;
 
 // What a writer is given of an entry: any numbers, since `extend` checks them.
-#[derive(Clone, Copy)]
+#[derive(Clone, Copy, Debug, PartialEq, Eq)]
 pub struct Fields {
     pub class: u8,
     pub subprogram: u8,
@@ -23,33 +23,26 @@ pub struct Fields {
     pub mode: u32,
 }
 
-// What a writer answers: the total of the directory it leaves, or why it left the buffer as it was.
-#[derive(Clone, Copy)]
-pub enum TotalAnswer {
-    Given(u32),
-    Refused(Fault),
-}
-
 // The checksum of a directory with no entries.
 const EMPTY: u32 = 0xFFFF_FFFF;
+
 // The largest total of a directory.
 const LIMIT: u32 = 512;
+
 // The bytes of a PSP directory's entry.
 const ENTRY: usize = 16;
 
 // Starts a directory of a level: an empty one is written at the buffer's start, and nothing else.
-pub fn start(buf: &mut [u8], level: u32) -> TotalAnswer
-    ensures result_value { told_total result ≡ start_of level buf.old }
+#[tactic(auto, using(crate::proofs::Cases::header_put, directory::proofs::Cases::level_above), unfolding(crate::specs::Write::start_of))]
+pub fn start(buf: &mut [u8], level: u32) -> Result<u32, Fault>
+    ensures result_value { told result ≡ start_of level buf.old }
     ensures buf_after { buf.new ≡ started_by level buf.old (start_of level buf.old) }
 {
-    if level < 1 {
-        return TotalAnswer::Refused(Fault::RANGE);
-    }
-    if 2 < level {
-        return TotalAnswer::Refused(Fault::RANGE);
+    if level < 1 || 2 < level {
+        return Err(Refusal::Range.into());
     }
     if buf.len() < Directory::HEADER {
-        return TotalAnswer::Refused(Fault::ROOM);
+        return Err(Refusal::Room.into());
     }
     le::put32(
         buf,
@@ -59,48 +52,44 @@ pub fn start(buf: &mut [u8], level: u32) -> TotalAnswer
     le::put32(buf, Directory::CHECKSUM, EMPTY);
     le::put32(buf, Directory::TOTAL, 0);
     le::put32(buf, Directory::RESERVED, 0);
-    TotalAnswer::Given(0)
+    Ok(0)
 }
 
 // What is asked of an entry for a good directory in a buffer: the new total.
-fn room_for(buf: &[u8], d: Directory, f: Fields) -> TotalAnswer
-    ensures { told_total result ≡ room_for f buf.now d }
+#[tactic(auto, unfolding(crate::specs::Write::room_for))]
+fn room_for(buf: &[u8], d: Directory, f: Fields) -> Result<u32, Fault>
+    ensures { told result ≡ room_for f buf.now d }
 {
     let kind = directory::psp_kind();
     let n = d.total();
-    if 0x3FFF_FFFF_FFFF_FFFF < f.location {
-        return TotalAnswer::Refused(Fault::FIELD);
+    if 0x3FFF_FFFF_FFFF_FFFF < f.location || 3 < f.mode {
+        return Err(Refusal::Field.into());
     }
-    if 3 < f.mode {
-        return TotalAnswer::Refused(Fault::FIELD);
+    if !directory::may_stand(kind, d.level(), f.class) {
+        return Err(Refusal::Misplaced.into());
     }
-    if directory::may_stand(kind, d.level(), f.class) {
-        if entries::holds_in(buf, kind, d, f.class, f.subprogram) {
-            return TotalAnswer::Refused(Fault::REPEATED);
-        }
-        if LIMIT <= n {
-            return TotalAnswer::Refused(Fault::LIMITS);
-        }
-        if buf.len() < Directory::HEADER + (n as usize) * ENTRY + ENTRY {
-            return TotalAnswer::Refused(Fault::ROOM);
-        }
-        TotalAnswer::Given(n + 1)
-    } else {
-        TotalAnswer::Refused(Fault::MISPLACED)
+    if entries::holds_in(buf, kind, d, f.class, f.subprogram) {
+        return Err(Refusal::Repeated.into());
     }
+    if LIMIT <= n {
+        return Err(Refusal::Limits.into());
+    }
+    if buf.len() < Directory::HEADER + (n as usize) * ENTRY + ENTRY {
+        return Err(Refusal::Room.into());
+    }
+    Ok(n + 1)
 }
 
 // What an extend by this entry answers, with no byte written.
-pub fn admit(buf: &[u8], f: Fields) -> TotalAnswer
-    ensures { told_total result ≡ extend_of f buf.now }
+pub fn admit(buf: &[u8], f: Fields) -> Result<u32, Fault>
+    ensures { told result ≡ extend_of f buf.now }
 {
-    match directory::directory_by_cookie(buf, directory::psp_kind(), LIMIT, Offset(0)) {
-        DirectoryAnswer::Given(d) => room_for(buf, d, f),
-        DirectoryAnswer::Refused(why) => TotalAnswer::Refused(why),
-    }
+    let d = directory::directory_by_cookie(buf, directory::psp_kind(), LIMIT, Offset(0))?;
+    room_for(buf, d, f)
 }
 
 // Writes an entry's sixteen bytes at the start of a part.
+#[tactic(auto, using(crate::proofs::Cases::entry_put))]
 fn put_entry(part: &mut [u8], f: Fields)
     requires { (f.location < 2 ^ 62) × (f.mode ≤ 3) × (16 ≤ length part.old) }
     ensures { part.new ≡ put_bytes (entry_bytes f) part.old 0 }
@@ -126,21 +115,16 @@ fn append(buf: &mut [u8], f: Fields, total: u32)
     let before = fletcher::raised(le::u32_at(buf, Directory::CHECKSUM), words);
     put_entry(&mut buf[at..], f);
     le::put32(buf, Directory::TOTAL, total);
-    let end = at + ENTRY;
-    let entry = fletcher::fletcher(&buf[at..end]);
+    let entry = fletcher::fletcher(&buf[at..at + ENTRY]);
     le::put32(buf, Directory::CHECKSUM, fletcher::joined(before, 8, entry));
 }
 
 // Extends the directory at the buffer's start by one entry: the new total. Refused, every byte is kept.
-pub fn extend(buf: &mut [u8], f: Fields) -> TotalAnswer
-    ensures result_value { told_total result ≡ extend_of f buf.old }
+pub fn extend(buf: &mut [u8], f: Fields) -> Result<u32, Fault>
+    ensures result_value { told result ≡ extend_of f buf.old }
     ensures buf_after { buf.new ≡ extended_by f buf.old (extend_of f buf.old) }
 {
-    match admit(buf, f) {
-        TotalAnswer::Given(total) => {
-            append(buf, f, total);
-            TotalAnswer::Given(total)
-        }
-        TotalAnswer::Refused(why) => TotalAnswer::Refused(why),
-    }
+    let total = admit(buf, f)?;
+    append(buf, f, total);
+    Ok(total)
 }

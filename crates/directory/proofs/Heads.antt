@@ -2,22 +2,31 @@
 use mathlib.Core.Path.{◌≡◌, refl, sym, ap, ap₂, ◌∙◌}
 use mathlib.Core.List.{List}
 use mathlib.Core.Bool.{Bool, true, false, not, ◌&&◌, ◌||◌}
-use Prim.Native.Nat.{ℕ, ◌+◌, ◌*◌, ◌/◌, ◌%◌, ◌<◌}
+use Prim.Native.Nat.{ℕ, ◌+◌, ◌*◌, ◌/◌, ◌%◌, ◌^◌, ◌<◌}
 use native.Mathlib.Nat.{add-zero}
 use native.Mathlib.Omega.{arith}
 use borrow.Author.Tests.{eqb-true, eqb-false, not-true, eq-eqb, ne_eqb}
-use lib.ListN.{get_or}
+use lib.Bits.{bit_or}
+use lib.ListN.{length, get_or, set, replicate, length-set, length-replicate}
 use lib.Dec.{eqb}
 use Rattle.le.specs.Le.{le_at, Bytes}
 use Rattle.le.proofs.Laws.{le_split, le_small}
 use Rattle.reply.proofs.ReplyLaws.{apart}
 use Rattle.reply.proofs.SomeLaws.{some_same, some_false, none_below}
 use Rattle.marks.specs.Marks.{bit_of, kept_as}
-use Rattle.marks.proofs.Marks.{Marks}
+use Rattle.marks.proofs.Marks.{Marks, marks_none, marks_step}
 use Rattle.directory.specs.Directory.{entry_place, same_entry, repeats_earlier, may_repeat}
 use Rattle.directory.specs.Looks.{head_at}
 use Rattle.directory.specs.Good.{Alike, First}
 use Rattle.directory.specs.declared.Kind.{Kind}
+
+-- so many words have the marks of the types and subprograms of the entries before i
+pub record Seen (kind : Kind) (image : List ℕ) (o words i : ℕ) (marks : List ℕ) : Type 0 where
+  pub long : length marks ≡ words
+  pub has : Marks words (λ j. head_at kind image o j % 65536) i marks
+
+pub seen_none : (kind : Kind) (s : List ℕ) (o words : ℕ) → Seen kind s o words 0 (replicate words 1)
+seen_none kind s o words = record { long = length-replicate words 1; has = marks_none words (λ j. head_at kind s o j % 65536) }
 
 -- what the first four bytes of entry i tell
 module _ (kind : Kind) (s : List ℕ) (o : ℕ) (bytes : Bytes s) where
@@ -47,11 +56,20 @@ module _ (kind : Kind) (s : List ℕ) (o : ℕ) (bytes : Bytes s) where
           by true e false f = let m : t ≡ u = eqb-true t u e in ne_eqb (t + 256 * a) (u + 256 * b) (λ z. eqb-false a b f (omega arith))
           by false e q f = ne_eqb (t + 256 * a) (u + 256 * b) (λ z. eqb-false t u e (omega arith))
 
-  -- by the marks of the types and subprograms before it
-  pub mark_tells : (words i p w : ℕ) (marks : List ℕ) → p ≡ head_at kind s o i % 65536 → p < words * 64 → w ≡ p / 64 → Marks words (λ j. head_at kind s o j % 65536) i marks →
-      bit_of (kept_as (get_or marks w 0)) (p % 64) ≡ repeats_earlier kind s o i
-  mark_tells words i p w marks is small at m =
-      ap (λ (x : ℕ). bit_of (kept_as (get_or marks x 0)) (p % 64)) at ∙ m p small ∙ some_same _ _ i (λ j l. ap (eqb (head_at kind s o j % 65536)) is ∙ same_pair i j)
+  -- by the mark of entry i, in word w: whether it repeats an earlier one; and its mark beside theirs
+  module _ {words i head w : ℕ} {marks : List ℕ} (old : Seen kind s o words i marks) (is : head ≡ head_at kind s o i) (small : head % 65536 < words * 64) (at : w ≡ (head % 65536) / 64) where
+    pair_is : head % 65536 ≡ head_at kind s o i % 65536
+    pair_is = ap (λ (x : ℕ). x % 65536) is
+
+    pub seen_tells : bit_of (kept_as (get_or marks w 0)) (head % 65536 % 64) ≡ repeats_earlier kind s o i
+    seen_tells =
+        ap (λ (x : ℕ). bit_of (kept_as (get_or marks x 0)) (head % 65536 % 64)) at ∙ old.has (head % 65536) small ∙ some_same _ _ i (λ j l. ap (eqb (head_at kind s o j % 65536)) pair_is ∙ same_pair i j)
+
+    pub seen_more : {v : ℕ} → v ≡ kept_as (bit_or (kept_as (get_or marks w 0)) (2 ^ (head % 65536 % 64))) → Seen kind s o words (i + 1) (set marks w v)
+    seen_more {v} value = record {
+      long = length-set marks w v ∙ old.long;
+      has = marks_step words (λ j. head_at kind s o j % 65536) i marks (head % 65536) w v old.long old.has pair_is small at value;
+    }
 
 -- the test of an entry of a directory that may not repeat
 module _ (kind : Kind) (s : List ℕ) (o i : ℕ) where

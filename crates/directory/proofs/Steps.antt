@@ -1,11 +1,13 @@
 -- The answer of a directory's entries, by the first that is at fault. Assumes nothing.
-use mathlib.Core.Path.{◌≡◌, refl, sym, ap, ◌∙◌}
+use mathlib.Core.Path.{◌≡◌, refl, sym, ap, ap₂, subst, ◌∙◌}
 use mathlib.Core.List.{List}
 use mathlib.Core.Bool.{Bool, true, false, not, cond, ◌&&◌, ◌||◌}
 use Prim.Native.Nat.{ℕ, zero, suc, ◌+◌, ◌*◌, ◌-◌, ◌/◌, ◌%◌, ◌^◌, ◌<◌, ◌≤◌}
-use native.Mathlib.Nat.{mul-le-mul_right, add-mul, div-eq_of_lt, div-div-eq-div-mul, le-div_iff_mul-le, pow-le-pow_right}
+use native.Mathlib.Nat.{div-eq_of_lt, div-div-eq-div-mul, le-div_iff_mul-le, pow-le-pow_right}
 use native.Mathlib.Omega.{arith}
-use borrow.Author.Tests.{lt-ltb, ltb-true, ltb-false, eq-eqb, ne_eqb}
+use borrow.Author.Tests.{lt-ltb, ltb-true, ltb-false, eqb-true, eqb-false, eq-eqb, ne_eqb}
+use Rattle.std.specs.Prelude.{Option, None, Some}
+use Rattle.std.specs.Option.{MatchOption, unwrap_or}
 use lib.Pow.{pow_pos}
 use lib.Dec.{ltb, eqb}
 use Rattle.le.specs.Le.{Bytes, bits_from}
@@ -13,33 +15,33 @@ use Rattle.reply.specs.Reply.{Reply, given, refused, in_entry}
 use Rattle.reply.specs.Scan.{scan}
 use Rattle.reply.specs.Some.{some_below, first_below}
 use Rattle.reply.proofs.ReplyLaws.{passed, failed, apart}
-use Rattle.reply.proofs.ScanLaws.{scan_start, scan_end, scan_stop, scan_pass}
+use Rattle.reply.proofs.ScanLaws.{scan_start, scan_end, scan_stop, scan_pass, scan_hit, scan_miss}
 use Rattle.reply.proofs.SomeLaws.{none_below, some_same, some_first, Found, first_found}
 use Rattle.directory.specs.Directory.{class_at, reserved_zero, may_stand, repeats_earlier, may_repeat, entry_step, directory_of, entries_at}
-use Rattle.directory.specs.Looks.{head_at, flags_used, clear_below, faulty_at, bad_at, ended_at}
+use Rattle.directory.specs.Looks.{head_at, clear_below, faulty_at, bad_at, ended_at}
 use Rattle.directory.specs.declared.Kind.{Kind}
 use Rattle.directory.specs.declared.Directory.{Directory}
 use Rattle.directory.proofs.Heads.{head_reserved, head_type, may_first, may_not, may_any}
 
--- an entry of n that lie in the image lies in it
-pub entry_inside : (kind : Kind) (o n i len : ℕ) → o + 16 + n * kind.entry ≤ len → i < n → o + 16 + i * kind.entry + kind.entry ≤ len
-entry_inside kind o n i len h l =
-    let a : (i + 1) * kind.entry ≤ n * kind.entry = mul-le-mul_right kind.entry (omega arith) in
-    omega (arith, add-mul i 1 kind.entry)
+-- a loop that searches knows that none below i passes: it stops at i, goes on, or comes to the end
+module _ (test : ℕ → Bool) where
+  pub stops_at : (n i : ℕ) → i < n → ((j : ℕ) → j < i → test j ≡ false) → test i ≡ true → i ≡ first_below test n
+  stops_at n i inside before here = sym (scan_hit test (λ i. i) (λ i. i) n 0 i (omega arith) (omega arith) here (λ j a b. before j b))
 
--- so do fewer
-pub fewer_inside : (kind : Kind) (o n m len : ℕ) → o + 16 + n * kind.entry ≤ len → m ≤ n → o + 16 + m * kind.entry ≤ len
-fewer_inside kind o n m len h l =
-    let a : m * kind.entry ≤ n * kind.entry = mul-le-mul_right kind.entry l in
-    omega arith
+  pub goes_on : (i : ℕ) → ((j : ℕ) → j < i → test j ≡ false) → test i ≡ false → (j : ℕ) → j < i + 1 → test j ≡ false
+  goes_on i before here j l = by (eqb j i) refl
+    where
+      by : (b : Bool) → eqb j i ≡ b → test j ≡ false
+      by true e = ap test (eqb-true j i e) ∙ here
+      by false e = let other = eqb-false j i e in before j (omega arith)
 
--- at most sixteen
-pub few_flags : (used : ℕ) → flags_used used ≤ 16
-few_flags used = by (ltb used 16) refl
-  where
-    by : (b : Bool) → ltb used 16 ≡ b → cond b used 16 ≤ 16
-    by true q = let l : used < 16 = ltb-true used 16 q in omega arith
-    by false q = omega arith
+  pub comes_to : (n : ℕ) → ((j : ℕ) → j < n → test j ≡ false) → n ≡ first_below test n
+  comes_to n before = sym (scan_miss test (λ i. i) (λ i. i) n 0 n (omega arith) (λ j a b. before j b))
+
+-- what a search of the numbers below n finds, or n
+pub found_or : (test : ℕ → Bool) (n : ℕ) (r : Option ℕ) → MatchOption r ((k : ℕ) → 0 ≤ k → k < n → test k ≡ false) (λ i. (0 ≤ i) × (i < n) × (test i ≡ true) × ((k : ℕ) → 0 ≤ k → k < i → test k ≡ false)) → unwrap_or r n ≡ first_below test n
+found_or test n None none = comes_to test n (λ j l. none j (omega arith) l)
+found_or test n (Some i) one = stops_at test n i one.1 (λ j l. one.3 j (omega arith) l) one.2
 
 -- the one comparison says that the flags from bit `used` up are zero
 pub reserved_test : (used head : ℕ) → head < 2 ^ 32 → ltb head (clear_below used) ≡ eqb (bits_from used (head / 65536)) 0
@@ -126,13 +128,28 @@ module _ (kind : Kind) (level : ℕ) (s : List ℕ) (o n : ℕ) (bytes : Bytes s
       by false q =
           sym (scan_end (entry_step kind level s o) (λ _. given (directory_of o level n)) n end (ltb-false end n q)) ∙ reach end h f m
 
+  found : (end : ℕ) → end ≡ first_below (faulty_at kind level s o) n → Found (faulty_at kind level s o) n end
+  found end is = subst (Found (faulty_at kind level s o) n) (sym is) (first_found (faulty_at kind level s o) n)
+
+  -- at an entry that begins like this
+  ended_here : (end head : ℕ) → end < n → head ≡ head_at kind s o end → (b : Bool) → eqb (bits_from kind.used (head / 65536)) 0 ≡ b → refused (cond b 14 5) (in_entry level end o) ≡ ended_at kind level s o n end
+  ended_here end head l is b q =
+      let zero = sym (reserved_is end) ∙ ap (λ (x : ℕ). eqb (bits_from kind.used (x / 65536)) 0) (sym is) ∙ q in
+      sym (ap₂ (λ (t z : Bool). cond t (refused (cond z 14 5) (in_entry level end o)) (given (directory_of o level n))) (lt-ltb end n l) zero)
+
+  pub ended_misplaced : (end head : ℕ) → end < n → head ≡ head_at kind s o end → eqb (bits_from kind.used (head / 65536)) 0 ≡ true → refused 14 (in_entry level end o) ≡ ended_at kind level s o n end
+  ended_misplaced end head l is q = ended_here end head l is true q
+
+  pub ended_field : (end head : ℕ) → end < n → head ≡ head_at kind s o end → eqb (bits_from kind.used (head / 65536)) 0 ≡ false → refused 5 (in_entry level end o) ≡ ended_at kind level s o n end
+  ended_field end head l is q = ended_here end head l is false q
+
   -- in a directory that may repeat
-  pub ends_any : (end : ℕ) → Found (faulty_at kind level s o) n end → kind.repeats ≡ true → ended_at kind level s o n end ≡ entries_at kind level s o n
-  ends_any end f r = ends end f.within f.before f.here (λ j l. may_any kind s o j r)
+  pub ends_any : (end : ℕ) → end ≡ first_below (faulty_at kind level s o) n → kind.repeats ≡ true → ended_at kind level s o n end ≡ entries_at kind level s o n
+  ends_any end is r = let f = found end is in ends end f.within f.before f.here (λ j l. may_any kind s o j r)
 
   -- none before it repeats
-  pub ends_first : (end : ℕ) → Found (faulty_at kind level s o) n end → some_below (bad_at kind level s o) end ≡ false → ended_at kind level s o n end ≡ entries_at kind level s o n
-  ends_first end f e = ends end f.within f.before f.here (λ j l. may_first kind s o j (or_false (faulty_at kind level s o j) (repeats_earlier kind s o j) (none_below (bad_at kind level s o) end e j l)).1)
+  pub ends_first : (end : ℕ) → end ≡ first_below (faulty_at kind level s o) n → some_below (bad_at kind level s o) end ≡ false → ended_at kind level s o n end ≡ entries_at kind level s o n
+  ends_first end is e = let f = found end is in ends end f.within f.before f.here (λ j l. may_first kind s o j (or_false (faulty_at kind level s o j) (repeats_earlier kind s o j) (none_below (bad_at kind level s o) end e j l)).1)
 
   -- none is at fault
   pub ends_good : some_below (bad_at kind level s o) n ≡ false → ended_at kind level s o n n ≡ entries_at kind level s o n
@@ -141,9 +158,10 @@ module _ (kind : Kind) (level : ℕ) (s : List ℕ) (o n : ℕ) (bytes : Bytes s
       ends n (omega arith) (λ j l. (good j l).0) (λ l. absurd (let z : ⊥ = omega arith in z)) (λ j l. may_first kind s o j (good j l).1)
 
   -- one before the first that is at fault by itself repeats: the first that does is told
-  pub ends_repeated : (end : ℕ) → Found (faulty_at kind level s o) n end → kind.repeats ≡ false → some_below (bad_at kind level s o) end ≡ true →
+  pub ends_repeated : (end : ℕ) → end ≡ first_below (faulty_at kind level s o) n → kind.repeats ≡ false → some_below (bad_at kind level s o) end ≡ true →
       refused 18 (in_entry level (first_below (repeats_earlier kind s o) end) o) ≡ entries_at kind level s o n
-  ends_repeated end f r e =
+  ends_repeated end is r e =
+      let f = found end is in
       let k = first_below (repeats_earlier kind s o) end in
       let first = first_found (repeats_earlier kind s o) end in
       let repeats = some_same (repeats_earlier kind s o) (bad_at kind level s o) end (λ j l. ap (λ (b : Bool). b || repeats_earlier kind s o j) (sym (f.before j l))) ∙ e in

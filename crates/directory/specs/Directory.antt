@@ -3,15 +3,13 @@ use Rattle.std.specs.Prelude.{ℕ, ◌+◌, ◌*◌, List, Bool, true, false, no
 use Rattle.le.specs.Le.{bits_from}
 use Rattle.le.specs.Field.{get}
 use Rattle.fletcher.specs.Fletcher.{fletcher_of}
-use Rattle.reply.specs.Reply.{Reply, given, refused, in_header, in_entry, carried_of, check, guard}
+use Rattle.reply.specs.Reply.{Reply, given, refused, in_header, in_entry, check, guard}
 use Rattle.reply.specs.Scan.{scan}
 use Rattle.reply.specs.Some.{some_below}
 use Rattle.directory.specs.Header as header
 use Rattle.directory.specs.Entry as entry
 use Rattle.directory.specs.declared.Kind.{Kind}
 use Rattle.directory.specs.declared.Directory.{Directory}
-use Rattle.directory.specs.declared.DirectoryAnswer.{DirectoryAnswer}
-use Rattle.directory.specs.declared.DirectoryAnswer.TheVariants as directory_answer
 
 -- PSP directories: "$PSP" and "$PL2", entries of 16 bytes, type 0x40 leads to level two, type 0x0B is a value, all flags are reserved, no entry repeats
 abbrev pub psp_kind : Kind
@@ -101,8 +99,3 @@ directory_by_cookie kind limit image o =
     (cond (eqb (get header.cookie image o) kind.one) (directory_at kind limit 1 image o)
     (cond (eqb (get header.cookie image o) kind.two) (directory_at kind limit 2 image o)
     (refused 2 (in_header 0 o))))  -- neither cookie (2)
-
--- what the answer tells
-abbrev pub told_directory : DirectoryAnswer → Reply Directory
-told_directory (directory_answer.Given d) = given d
-told_directory (directory_answer.Refused why) = refused why.number (carried_of why.met)

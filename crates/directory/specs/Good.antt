@@ -2,19 +2,19 @@
 use Rattle.std.specs.Prelude.{ℕ, ◌<◌, ◌≤◌, ◌≡◌, ◌⊎◌, List, false, length}
 use Rattle.le.specs.Le.{bits_from}
 use Rattle.le.specs.Field.{get}
-use Rattle.reply.specs.Reply.{Carried, given, refused, OneToOne}
-use Rattle.directory.specs.Directory.{cookie_of, total_at, entry_place, checksum_at, class_at, subprogram_at, directory_at, directory_by_cookie, told_directory}
+use Rattle.reply.specs.Reply.{Carried, given, refused, OneToOne, told}
+use Rattle.directory.specs.Directory.{cookie_of, total_at, entry_place, checksum_at, class_at, subprogram_at, directory_at, directory_by_cookie}
 use Rattle.directory.specs.Header as header
 use Rattle.directory.specs.Entry as entry
-use Rattle.directory.specs.Repeat.{repeated_at, told_repeat}
+use Rattle.directory.specs.Repeat.{repeated_at}
 use Rattle.directory.specs.declared.Kind.{Kind}
 use Rattle.directory.specs.declared.Directory.{Directory}
 use Rattle.directory.specs.declared.Repeat.{Repeat}
 
 -- no two answers of a call tell the same
 pub record ToldApart : Type 0 where
-  pub directory : OneToOne told_directory
-  pub repeated : OneToOne told_repeat
+  pub directory : OneToOne (told {A = Directory})
+  pub repeated : OneToOne (told {A = Repeat})
 
 -- entry i: reserved bits zero, and no lead but in level one
 pub record GoodEntry (kind : Kind) (level : ℕ) (image : List ℕ) (o i : ℕ) : Type 0 where

@@ -1,13 +1,11 @@
 -- Which entries of a directory repeat, for a message that names both. Assumes nothing: these are definitions.
 use Rattle.std.specs.Prelude.{ℕ, List, cond, eqb}
-use Rattle.reply.specs.Reply.{Reply, given, refused, alone, carried_of}
+use Rattle.reply.specs.Reply.{Reply, given, refused, alone}
 use Rattle.reply.specs.Some.{first_below}
 use Rattle.directory.specs.Directory.{total_at, class_at, subprogram_at, same_entry, repeats_earlier, directory_at}
 use Rattle.directory.specs.declared.Kind.{Kind}
 use Rattle.directory.specs.declared.Directory.{Directory}
 use Rattle.directory.specs.declared.Repeat.{Repeat}
-use Rattle.directory.specs.declared.RepeatAnswer.{RepeatAnswer}
-use Rattle.directory.specs.declared.RepeatAnswer.TheVariants as repeat_answer
 
 -- the first entry before i that has its type and subprogram, or i
 abbrev pub earlier_of : Kind → (image : List ℕ) → (o i : ℕ) → ℕ
@@ -33,8 +31,3 @@ named_by kind image o (refused number carried) = cond (eqb number 18) (given (re
 
 abbrev pub repeated_at : Kind → (limit level : ℕ) → (image : List ℕ) → (o : ℕ) → Reply Repeat
 repeated_at kind limit level image o = named_by kind image o (directory_at kind limit level image o)
-
--- what the answer tells
-abbrev pub told_repeat : RepeatAnswer → Reply Repeat
-told_repeat (repeat_answer.Given r) = given r
-told_repeat (repeat_answer.Refused why) = refused why.number (carried_of why.met)

@@ -9,11 +9,7 @@ use Rattle.efs.specs.Fields as efs
 use Rattle.window.specs.Length.{sized}
 use Rattle.efs.specs.declared.Rules.{Rules}
 use Rattle.efs.specs.declared.Efs.{Efs}
-use Rattle.efs.specs.declared.EfsAnswer.{EfsAnswer}
-use Rattle.efs.specs.declared.EfsAnswer.TheVariants as efs_answer
 use Rattle.efs.specs.declared.Pointer.{Pointer}
-use Rattle.efs.specs.declared.PointerAnswer.{PointerAnswer}
-use Rattle.efs.specs.declared.PointerAnswer.TheVariants as pointer_answer
 
 -- an EFS counts at o if its 0x24 bytes lie in the image and start with aa 55 aa 55
 abbrev pub counts : (image : List ℕ) → (o : ℕ) → Bool
@@ -76,12 +72,3 @@ flash_efs r image = sized image (efs_in r image)
 
 abbrev pub flash_pointer : Rules → (image : List ℕ) → Reply Pointer
 flash_pointer r image = sized image (pointer_in r image)
-
--- what each answer tells
-abbrev pub told_efs : EfsAnswer → Reply Efs
-told_efs (efs_answer.Given e) = given e
-told_efs (efs_answer.Refused why) = refused why.number alone
-
-abbrev pub told_pointer : PointerAnswer → Reply Pointer
-told_pointer (pointer_answer.Given p) = given p
-told_pointer (pointer_answer.Refused why) = refused why.number alone

@@ -1,19 +1,18 @@
--- Where a location leads and an entry's bytes lie, case by case, as the code comes to it; and that a part given lies in the image. Assumes nothing.
-use mathlib.Core.Path.{◌≡◌, ◌∙◌}
+-- A part that is given lies in the image, and so does a place that a location leads to. Assumes nothing.
+use mathlib.Core.Path.{◌≡◌, sym}
 use mathlib.Core.List.{List}
 use mathlib.Core.Bool.{Bool, true, false, not, cond}
 use Prim.Native.Nat.{ℕ, ◌+◌, ◌≤◌}
 use native.Mathlib.Omega.{arith}
-use borrow.Author.Tests.{leb-true, ne_eqb}
+use borrow.Author.Tests.{leb-true}
 use lib.ListN.{length}
 use lib.Dec.{leb, eqb}
-use Rattle.reply.specs.Reply.{Reply, given, refused, alone, then}
-use Rattle.reply.proofs.ReplyLaws.{past, then_given, then_told, met_given}
-use Rattle.window.specs.Window.{offset_in, told_offset}
+use Rattle.reply.specs.Reply.{given, refused, alone, then}
+use Rattle.reply.proofs.ReplyLaws.{past, then_given, met_given}
+use Rattle.window.specs.Window.{offset_in}
 use Rattle.window.specs.declared.Offset.{Offset}
-use Rattle.window.specs.declared.OffsetAnswer.{OffsetAnswer}
-use Rattle.window.specs.declared.OffsetAnswer.TheVariants as offset_answer
-use Rattle.reply.specs.declared.Refusal.{Refusal}
+use Rattle.window.specs.Length.{sized}
+use Rattle.window.proofs.Length.{sized_past}
 use Rattle.entries.specs.Entry.{entry_in}
 use Rattle.entries.specs.Part.{place_in, leads_to, part_within, part_of, part_in}
 use Rattle.directory.specs.declared.Kind.{Kind}
@@ -21,28 +20,10 @@ use Rattle.directory.specs.declared.Directory.{Directory}
 use Rattle.entries.specs.declared.Entry.{Entry}
 use Rattle.entries.specs.declared.Part.{Part}
 
-module _ (window : ℕ) (s : List ℕ) (o : ℕ) (e : Entry) where
-  pub lead_mode : e.mode ≡ 3 → refused 16 alone ≡ leads_to window s o e
-  unfolding leads_to
-  lead_mode m = rw m
-
-  pub lead_physical : (r : Reply Offset) (q : OffsetAnswer) (a : Offset) → e.mode ≡ 0 → q ≡ offset_answer.Given a → told_offset q ≡ offset_in window e.location → r ≡ place_in s a.0 → r ≡ leads_to window s o e
-  unfolding leads_to
-  lead_physical r q a m g t h = rw m (h ∙ then_told told_offset (λ a. place_in s a.0) g t)
-
-  pub lead_outside : (q : OffsetAnswer) (why : Refusal) → e.mode ≡ 0 → q ≡ offset_answer.Refused why → told_offset q ≡ offset_in window e.location → refused why.number alone ≡ leads_to window s o e
-  unfolding leads_to
-  lead_outside q why m g t = rw m (then_told told_offset (λ a. place_in s a.0) g t)
-
-  pub lead_offset : (r : Reply Offset) → e.mode ≡ 1 → r ≡ place_in s (0 + e.location) → r ≡ leads_to window s o e
-  unfolding leads_to
-  lead_offset r m h = let z : 0 + e.location ≡ e.location = omega arith in rw m (rw z at h)
-
-  pub lead_counted : (r : Reply Offset) → (e.mode ≡ 3 → ⊥) → (e.mode ≡ 0 → ⊥) → (e.mode ≡ 1 → ⊥) → r ≡ place_in s (o + e.location) → r ≡ leads_to window s o e
-  unfolding leads_to
-  lead_counted r b c d h = rw (ne_eqb _ _ b, ne_eqb _ _ c, ne_eqb _ _ d) h
-
-pub ruleset lead-cases = (lead_mode, lead_physical, lead_outside, lead_offset, lead_counted)
+-- mode 3 leads nowhere
+pub lead_mode : (window : ℕ) (s : List ℕ) (o : ℕ) (e : Entry) → e.mode ≡ 3 → refused 16 alone ≡ leads_to window s o e
+unfolding leads_to
+lead_mode window s o e m = rw m
 
 -- an offset that is given is the one asked for, and lies within the image
 pub within_fact : (s : List ℕ) (x : ℕ) (p : Offset) → place_in s x ≡ given p → (x ≡ p.0) × (p.0 ≤ length s)
@@ -66,7 +47,11 @@ part_inside kind window s d i p e =
     let r : f.size ≡ p.length = cc h.1 in
     omega arith
 
--- so does a place that a location leads to
+-- the same where the length of the image is asked first
+pub sized_inside : (kind : Kind) (window : ℕ) (s : List ℕ) (d : Directory) (i : ℕ) (p : Part) → given p ≡ sized s (part_in kind window s d i) → p.place.0 + p.length ≤ length s
+sized_inside kind window s d i p e = part_inside kind window s d i p (sized_past s _ (sym e)).1
+
+-- a place that a location leads to lies in the image too
 pub lead_within : (window : ℕ) (s : List ℕ) (o : ℕ) (e : Entry) (p : Offset) → leads_to window s o e ≡ given p → p.0 ≤ length s
 unfolding leads_to
 lead_within window s o e p h = by (eqb e.mode 0) (eqb e.mode 1) (past (not (eqb e.mode 3)) _ _ _ h).1

@@ -2,7 +2,7 @@
 use Rattle.std.specs.Prelude.{ℕ, ◌+◌, List, Bool, ◌&&◌, cond, ltb, eqb}
 use Rattle.le.specs.Le.{bits_from, bits_below}
 use Rattle.le.specs.Field.{get}
-use Rattle.reply.specs.Reply.{Reply, given, refused, alone, tested, carried_of, guard}
+use Rattle.reply.specs.Reply.{Reply, given, refused, alone, tested, guard}
 use Rattle.reply.specs.Scan.{scan}
 use Rattle.reply.specs.Some.{some_below}
 use Rattle.directory.specs.Entry as entry
@@ -10,14 +10,8 @@ use Rattle.directory.specs.Directory.{entry_place}
 use Rattle.directory.specs.declared.Kind.{Kind}
 use Rattle.directory.specs.declared.Directory.{Directory}
 use Rattle.entries.specs.declared.Entry.{Entry}
-use Rattle.entries.specs.declared.EntryAnswer.{EntryAnswer}
-use Rattle.entries.specs.declared.EntryAnswer.TheVariants as entry_answer
 use Rattle.entries.specs.declared.Lead.{Lead}
-use Rattle.entries.specs.declared.LeadAnswer.{LeadAnswer}
-use Rattle.entries.specs.declared.LeadAnswer.TheVariants as lead_answer
 use Rattle.entries.specs.declared.Match.{Match}
-use Rattle.entries.specs.declared.MatchAnswer.{MatchAnswer}
-use Rattle.entries.specs.declared.MatchAnswer.TheVariants as match_answer
 
 -- the fields of the entry that begins at a place
 abbrev pub fields_at : (image : List ℕ) → (place : ℕ) → Entry
@@ -72,17 +66,3 @@ find_step kind image d class sub i rest = cond (matches (entry_of kind image d i
 -- the lookup in one directory: the lowest matching index, with the number of entries tested
 abbrev pub find_in : Kind → (image : List ℕ) → Directory → (class sub : ℕ) → Reply Match
 find_in kind image d class sub = scan (find_step kind image d class sub) nowhere d.total 0
-
--- what the answers tell
-abbrev pub told_entry : EntryAnswer → Reply Entry
-told_entry (entry_answer.Given e) = given e
-told_entry (entry_answer.Refused why) = refused why.number (carried_of why.met)
-
-abbrev pub told_lead : LeadAnswer → Reply Lead
-told_lead (lead_answer.Given l) = given l
-told_lead (lead_answer.Refused why) = refused why.number (carried_of why.met)
-
-abbrev pub told_match : MatchAnswer → Reply Match
-told_match (match_answer.Given m) = given m
-told_match (match_answer.Absent n) = refused 8 (tested n)
-told_match (match_answer.Refused why) = refused why.number (carried_of why.met)

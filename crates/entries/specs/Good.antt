@@ -1,12 +1,12 @@
 -- What a lookup's match and an entry's part are, as plain facts; and that exactly these are given. Assumes nothing: these are statements.
 use Rattle.std.specs.Prelude.{ℕ, ◌+◌, ◌<◌, ◌≤◌, ◌≡◌, List, false, length}
-use Rattle.reply.specs.Reply.{Carried, given, refused, alone, tested, OneToOne}
+use Rattle.reply.specs.Reply.{Carried, given, refused, alone, tested, OneToOne, told, told_search}
 use Rattle.reply.specs.Scan.{Lowest, None}
 use Rattle.window.specs.Window.{four_gib}
 use Rattle.window.specs.Inside.{Shown}
 use Rattle.directory.specs.Directory.{directory_at}
-use Rattle.entries.specs.Entry.{entry_of, entry_in, lead_of, lead_in, find_in, told_entry, told_lead, told_match}
-use Rattle.entries.specs.Part.{part_in, told_part}
+use Rattle.entries.specs.Entry.{entry_of, entry_in, lead_of, lead_in, find_in}
+use Rattle.entries.specs.Part.{part_in}
 use Rattle.directory.specs.declared.Kind.{Kind}
 use Rattle.directory.specs.declared.Directory.{Directory}
 use Rattle.entries.specs.declared.Entry.{Entry}
@@ -16,10 +16,10 @@ use Rattle.entries.specs.declared.Part.{Part}
 
 -- no two answers of a call tell the same
 pub record ToldApart : Type 0 where
-  pub entry : OneToOne told_entry
-  pub lead : OneToOne told_lead
-  pub lookup : OneToOne told_match
-  pub part : OneToOne told_part
+  pub entry : OneToOne (told {A = Entry})
+  pub lead : OneToOne (told {A = Lead})
+  pub lookup : OneToOne (told_search {A = Match})
+  pub part : OneToOne (told {A = Part})
 
 -- an entry is given exactly where the index is below the total; at or above it 8, whatever lies behind
 pub record EntryAcceptance : Type 0 where

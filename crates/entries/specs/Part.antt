@@ -1,6 +1,6 @@
 -- Where an entry's location leads, and the bytes of an entry. Assumes nothing: these are definitions.
 use Rattle.std.specs.Prelude.{ℕ, ◌+◌, List, [], not, cond, take, drop, eqb}
-use Rattle.reply.specs.Reply.{Reply, given, refused, in_entry, carried_of, guard, then, met}
+use Rattle.reply.specs.Reply.{Reply, given, refused, in_entry, guard, then, met}
 use Rattle.window.specs.Window.{offset_in, within}
 use Rattle.window.specs.declared.Offset.{Offset}
 use Rattle.entries.specs.Entry.{entry_in}
@@ -8,8 +8,6 @@ use Rattle.directory.specs.declared.Kind.{Kind}
 use Rattle.directory.specs.declared.Directory.{Directory}
 use Rattle.entries.specs.declared.Entry.{Entry}
 use Rattle.entries.specs.declared.Part.{Part}
-use Rattle.entries.specs.declared.PartAnswer.{PartAnswer}
-use Rattle.entries.specs.declared.PartAnswer.TheVariants as part_answer
 
 -- a place in the image: one beyond it is refused (7)
 abbrev pub place_in : (image : List ℕ) → (place : ℕ) → Reply Offset
@@ -46,8 +44,3 @@ bytes_of image (refused number carried) = []
 abbrev pub begin_of : (begin : ℕ × ℕ) → Reply Part → ℕ × ℕ
 begin_of begin (given p) = (begin.0, p.place.0 + begin.1)
 begin_of begin (refused number carried) = begin
-
--- what the answer tells
-abbrev pub told_part : PartAnswer → Reply Part
-told_part (part_answer.Given p) = given p
-told_part (part_answer.Refused why) = refused why.number (carried_of why.met)

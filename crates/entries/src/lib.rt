@@ -1,33 +1,25 @@
 // The entries of a directory: their fields, where their locations lead, and the lookup with its count.
 #![tactic(auto)]
 
-ghost use Rattle.std.specs.Prelude.{◌≡◌, ◌+◌, ◌≤◌, length};
-ghost use Rattle.reply.specs.Reply.{in_entry, met};
-ghost use Rattle.window.specs.Window.{told_offset};
-ghost use Rattle.window.specs.Length.{longest, sized};
+ghost use Rattle.std.specs.Prelude.{◌≡◌, ◌+◌};
+ghost use Rattle.reply.specs.Reply.{told, told_alone, told_search};
+ghost use Rattle.window.specs.Length.{sized};
 ghost use Rattle.directory.specs.Directory.{entry_place, class_at};
-ghost use Rattle.entries.specs.Entry.{fields_at, entry_in, told_entry, lead_in, told_lead, matches, holds_in, find_in, told_match};
-ghost use Rattle.entries.specs.Part.{place_in, leads_to, part_within, part_of, part_in, told_part, bytes_of, begin_of};
+ghost use Rattle.entries.specs.Entry.{fields_at, entry_in, lead_in, matches, holds_in, find_in};
+ghost use Rattle.entries.specs.Part.{place_in, leads_to, part_within, part_of, part_in, bytes_of, begin_of};
 
 use directory::{Directory, Kind};
-use reply::{Fault, Met, Refusal};
-use window::{Offset, OffsetAnswer, Physical};
+use reply::{Fault, Met, Missed, Refusal};
+use window::{Image, Offset, Physical};
 
 // An entry's fields. A location of mode 0 is physical, of mode 1 a flash offset, and of mode 2 counts from the directory.
-#[derive(Clone, Copy)]
+#[derive(Clone, Copy, Debug, PartialEq, Eq)]
 pub struct Entry {
     pub class: u8,
     pub subprogram: u8,
     pub size: u32,
     pub location: u64,
     pub mode: u8,
-}
-
-// What reading an entry answers.
-#[derive(Clone, Copy)]
-pub enum EntryAnswer {
-    Given(Entry),
-    Refused(Fault),
 }
 
 // The fields of entry i, as the bytes there tell them.
@@ -61,14 +53,13 @@ pub fn fields_of(bytes: &[u8]) -> Entry
 }
 
 // Entry i of a directory.
-pub fn entry_in(image: &[u8], kind: Kind, d: Directory, i: usize) -> EntryAnswer
-    ensures { told_entry result ≡ entry_in kind image.now d i }
+pub fn entry_in(image: &[u8], kind: Kind, d: Directory, i: usize) -> Result<Entry, Fault>
+    ensures { told result ≡ entry_in kind image.now d i }
 {
-    if i < (d.total() as usize) {
-        EntryAnswer::Given(fields_at(image, kind, d.place(), i as u32))
-    } else {
-        EntryAnswer::Refused(Fault::ABSENT)
+    if (d.total() as usize) <= i {
+        return Err(Refusal::Absent.into());
     }
+    Ok(fields_at(image, kind, d.place(), i as u32))
 }
 
 // The type of entry i.
@@ -79,62 +70,42 @@ pub fn class_at(image: &[u8], kind: Kind, at: Offset, i: u32) -> u8
 }
 
 // An entry that leads to level two, and its index.
-#[derive(Clone, Copy)]
+#[derive(Clone, Copy, Debug, PartialEq, Eq)]
 pub struct Lead {
     pub index: u32,
     pub entry: Entry,
 }
 
-// What the search for one answers.
-#[derive(Clone, Copy)]
-pub enum LeadAnswer {
-    Given(Lead),
-    Refused(Fault),
-}
-
 // The lowest entry of a directory that leads to level two.
-pub fn lead_in(image: &[u8], kind: Kind, d: Directory) -> LeadAnswer
-    ensures { told_lead result ≡ lead_in kind image.now d }
+#[tactic(auto, using(crate::proofs::Cases::lead_start, crate::proofs::Cases::lead_end, crate::proofs::Cases::lead_here, crate::proofs::Cases::lead_past))]
+pub fn lead_in(image: &[u8], kind: Kind, d: Directory) -> Result<Lead, Fault>
+    ensures { told result ≡ lead_in kind image.now d }
 {
     let n = d.total();
     let at = d.place();
-    let mut i: u32 = 0;
-    while i < n {
+    for i in 0..n {
         if class_at(image, kind, at, i) == kind.lead {
-            return LeadAnswer::Given(Lead {
+            return Ok(Lead {
                 index: i,
                 entry: fields_at(image, kind, at, i),
             });
         }
-        i += 1;
     }
-    LeadAnswer::Refused(Fault::ABSENT)
+    Err(Refusal::Absent.into())
 }
 
 // A lookup's match: its index, and the number of entries tested.
-#[derive(Clone, Copy)]
+#[derive(Clone, Copy, Debug, PartialEq, Eq)]
 pub struct Match {
     pub index: u32,
     pub tested: u32,
-}
-
-// What a lookup answers: a match, how many entries were tested where none matches, or why there was no lookup.
-#[derive(Clone, Copy)]
-pub enum MatchAnswer {
-    Given(Match),
-    Absent(u32),
-    Refused(Fault),
 }
 
 // Does an entry have this type and subprogram?
 pub fn matches(e: Entry, class: u8, sub: u8) -> bool
     ensures { result ≡ matches e class sub }
 {
-    if e.class == class {
-        e.subprogram == sub
-    } else {
-        false
-    }
+    e.class == class && e.subprogram == sub
 }
 
 // Does entry i have this type and subprogram? Its first two bytes tell.
@@ -142,197 +113,152 @@ pub fn entry_matches(image: &[u8], kind: Kind, at: Offset, i: u32, class: u8, su
     ensures { result ≡ matches (fields_at image.now (entry_place kind at.0 i)) class sub }
 {
     let place = directory::entry_place(kind, at, i);
-    if le::u8_at(image, place + Kind::CLASS) == class {
-        le::u8_at(image, place + Kind::SUBPROGRAM) == sub
-    } else {
-        false
-    }
+    le::u8_at(image, place + Kind::CLASS) == class
+        && le::u8_at(image, place + Kind::SUBPROGRAM) == sub
 }
 
 // The lookup by type and subprogram in a directory.
-pub fn find_in(image: &[u8], kind: Kind, d: Directory, class: u8, sub: u8) -> MatchAnswer
-    ensures { told_match result ≡ find_in kind image.now d class sub }
+#[tactic(auto, using(crate::proofs::Cases::find_start, crate::proofs::Cases::find_end, crate::proofs::Cases::find_here, crate::proofs::Cases::find_past))]
+pub fn find_in(
+    image: &[u8],
+    kind: Kind,
+    d: Directory,
+    class: u8,
+    sub: u8,
+) -> Result<Match, Missed<Fault>>
+    ensures { told_search result ≡ find_in kind image.now d class sub }
 {
     let n = d.total();
     let at = d.place();
-    let mut i: u32 = 0;
-    while i < n {
+    for i in 0..n {
         if entry_matches(image, kind, at, i, class, sub) {
-            return MatchAnswer::Given(Match {
+            return Ok(Match {
                 index: i,
                 tested: i + 1,
             });
         }
-        i += 1;
     }
-    MatchAnswer::Absent(n)
+    Err(Missed::Absent(n))
 }
 
 // Has some entry of a directory this type and subprogram?
+#[tactic(auto, using(crate::proofs::Lowest::held_told))]
 pub fn holds_in(image: &[u8], kind: Kind, d: Directory, class: u8, sub: u8) -> bool
     ensures { result ≡ holds_in kind image.now d class sub }
 {
-    match find_in(image, kind, d, class, sub) {
-        MatchAnswer::Given(_) => true,
-        MatchAnswer::Absent(_) => false,
-        MatchAnswer::Refused(_) => false,
-    }
+    find_in(image, kind, d, class, sub).is_ok()
 }
 
-// The place so many bytes behind another, where it does not lie beyond an image of a length that is allowed.
-fn place_in(image: &[u8], base: u32, location: u64) -> OffsetAnswer
-    requires { length image.now ≤ longest }
-    ensures { told_offset result ≡ place_in image.now (base + location) }
+// The place so many bytes behind another, where it does not lie beyond an image.
+fn place_in(image: &Image, base: u32, location: u64) -> Result<Offset, Refusal>
+    ensures { told_alone result ≡ place_in image.now (base + location) }
 {
+    let end = image.bytes().len();
     let from = location as usize;
     let base = base as usize;
-    if image.len() < from {
-        return OffsetAnswer::Refused(Refusal::OUTSIDE);
+    if end < from || end - from < base {
+        return Err(Refusal::Outside);
     }
-    if image.len() - from < base {
-        return OffsetAnswer::Refused(Refusal::OUTSIDE);
-    }
-    OffsetAnswer::Given(Offset((base + from) as u32))
+    Ok(Offset((base + from) as u32))
 }
 
-// Where the location of an entry leads, in an image of a length that is allowed.
-fn place_of(image: &[u8], window: usize, at: Offset, e: Entry) -> OffsetAnswer
-    requires { length image.now ≤ longest }
-    ensures { told_offset result ≡ leads_to window image.now at.0 e }
+// Where the location of an entry leads.
+#[tactic(auto, unfolding(crate::specs::Part::leads_to))]
+fn place_of(image: &Image, window: usize, at: Offset, e: Entry) -> Result<Offset, Refusal>
+    ensures { told_alone result ≡ leads_to window image.now at.0 e }
 {
-    if e.mode == 3 {
-        return OffsetAnswer::Refused(Refusal::MODE);
+    match e.mode {
+        0 => Physical(e.location).offset(window)?.within(image.bytes()),
+        1 => place_in(image, 0, e.location),
+        3 => Err(Refusal::Mode),
+        _ => place_in(image, at.0, e.location),
     }
-    if e.mode == 0 {
-        match Physical(e.location).offset(window) {
-            OffsetAnswer::Given(o) => return o.within(image),
-            OffsetAnswer::Refused(why) => return OffsetAnswer::Refused(why),
-        }
-    }
-    if e.mode == 1 {
-        return place_in(image, 0, e.location);
-    }
-    place_in(image, at.0, e.location)
 }
 
 // Where the location of an entry leads, in a directory at an offset, through a window of so many bytes.
-pub fn leads_to(image: &[u8], window: usize, at: Offset, e: Entry) -> OffsetAnswer
-    ensures { told_offset result ≡ sized image.now (leads_to window image.now at.0 e) }
+pub fn leads_to(image: &[u8], window: usize, at: Offset, e: Entry) -> Result<Offset, Refusal>
+    ensures { told_alone result ≡ sized image.now (leads_to window image.now at.0 e) }
 {
-    if window::length_allowed(image) {
-        place_of(image, window, at, e)
-    } else {
-        OffsetAnswer::Refused(Refusal::IMAGE)
-    }
+    place_of(&Image::new(image)?, window, at, e)
 }
 
 // A part of the image: where it begins, and its length.
-#[derive(Clone, Copy)]
+#[derive(Clone, Copy, Debug, PartialEq, Eq)]
 pub struct Part {
     pub place: Offset,
     pub length: usize,
 }
 
-// What the place of an entry's bytes answers.
-#[derive(Clone, Copy)]
-pub enum PartAnswer {
-    Given(Part),
-    Refused(Fault),
-}
-
 // The part of so many bytes at a place, where it ends within the image.
-fn part_within(image: &[u8], place: Offset, size: u32) -> PartAnswer
-    ensures { told_part result ≡ part_within image.now size place }
+#[tactic(auto, unfolding(crate::specs::Part::part_within))]
+fn part_within(image: &[u8], place: Offset, size: u32) -> Result<Part, Fault>
+    ensures { told result ≡ part_within image.now size place }
 {
     let length = size as usize;
     if image.len() < (place.0 as usize) + length {
-        return PartAnswer::Refused(Fault::OUTSIDE);
+        return Err(Refusal::Outside.into());
     }
-    PartAnswer::Given(Part {
-        place: place,
-        length: length,
-    })
+    Ok(Part { place, length })
 }
 
-// Where an entry's bytes lie, in an image of a length that is allowed.
-fn part_of(image: &[u8], kind: Kind, window: usize, at: Offset, e: Entry) -> PartAnswer
-    requires { length image.now ≤ longest }
-    ensures { told_part result ≡ part_of kind window image.now at.0 e }
+// Where an entry's bytes lie.
+#[tactic(auto, unfolding(crate::specs::Part::part_of))]
+fn part_of(image: &Image, kind: Kind, window: usize, at: Offset, e: Entry) -> Result<Part, Fault>
+    ensures { told result ≡ part_of kind window image.now at.0 e }
 {
     if (e.class as u16) == kind.value {
-        return PartAnswer::Refused(Fault::VALUE);
+        return Err(Refusal::Value.into());
     }
-    match place_of(image, window, at, e) {
-        OffsetAnswer::Given(place) => part_within(image, place, e.size),
-        OffsetAnswer::Refused(why) => PartAnswer::Refused(Fault {
-            number: why.number,
-            met: Met::Alone,
-        }),
-    }
+    part_within(image.bytes(), place_of(image, window, at, e)?, e.size)
 }
 
 // Where the bytes of an entry lie, in a directory at an offset, through a window of so many bytes, or why there are none.
-pub fn entry_part(image: &[u8], kind: Kind, window: usize, at: Offset, e: Entry) -> PartAnswer
-    ensures { told_part result ≡ sized image.now (part_of kind window image.now at.0 e) }
+pub fn entry_part(
+    image: &[u8],
+    kind: Kind,
+    window: usize,
+    at: Offset,
+    e: Entry,
+) -> Result<Part, Fault>
+    ensures { told result ≡ sized image.now (part_of kind window image.now at.0 e) }
 {
-    if window::length_allowed(image) {
-        part_of(image, kind, window, at, e)
-    } else {
-        PartAnswer::Refused(Fault::IMAGE)
-    }
+    part_of(&Image::new(image)?, kind, window, at, e)
 }
 
-// The same of entry i of a directory: a refusal was met in that entry.
-fn part_met(image: &[u8], kind: Kind, window: usize, d: Directory, i: u32, e: Entry) -> PartAnswer
-    requires { length image.now ≤ longest }
-    ensures { told_part result ≡ met (in_entry d.level i d.place.0) (part_of kind window image.now d.place.0 e) }
+// Where the bytes of entry i of a directory lie, or why there are none: a refusal of the entry was met there.
+pub fn part_in(
+    image: &[u8],
+    kind: Kind,
+    window: usize,
+    d: Directory,
+    i: usize,
+) -> Result<Part, Fault>
+    ensures { told result ≡ sized image.now (part_in kind window image.now d i) }
 {
-    match part_of(image, kind, window, d.place(), e) {
-        PartAnswer::Given(p) => PartAnswer::Given(p),
-        PartAnswer::Refused(why) => PartAnswer::Refused(Fault {
-            number: why.number,
-            met: Met::Entry {
-                level: d.level(),
-                index: i,
-                directory: d.place().0,
-            },
-        }),
-    }
-}
-
-// Where the bytes of entry i lie, in such an image.
-fn part_sized(image: &[u8], kind: Kind, window: usize, d: Directory, i: usize) -> PartAnswer
-    requires { length image.now ≤ longest }
-    ensures { told_part result ≡ part_in kind window image.now d i }
-{
-    match entry_in(image, kind, d, i) {
-        EntryAnswer::Given(e) => part_met(image, kind, window, d, i as u32, e),
-        EntryAnswer::Refused(why) => PartAnswer::Refused(why),
-    }
-}
-
-// Where the bytes of entry i of a directory lie, or why there are none.
-pub fn part_in(image: &[u8], kind: Kind, window: usize, d: Directory, i: usize) -> PartAnswer
-    ensures { told_part result ≡ sized image.now (part_in kind window image.now d i) }
-{
-    if window::length_allowed(image) {
-        part_sized(image, kind, window, d, i)
-    } else {
-        PartAnswer::Refused(Fault::IMAGE)
-    }
+    let image = Image::new(image)?;
+    let e = entry_in(image.bytes(), kind, d, i)?;
+    part_of(&image, kind, window, d.place(), e).map_err(|fault| Fault {
+        refusal: fault.refusal,
+        met: Met::Entry {
+            level: d.level(),
+            index: i as u32,
+            directory: d.place().0,
+        },
+    })
 }
 
 // The bytes of entry i of a directory: that part of the caller's image. Where refused there are none, and `part_in` gives the number.
+#[tactic(auto, using(crate::proofs::Parts::sized_inside))]
 pub fn bytes_in<'a>(image: &'a [u8], kind: Kind, window: usize, d: Directory, i: usize) -> &'a [u8]
     ensures result_value { result.now ≡ bytes_of image.now (sized image.now (part_in kind window image.now d i)) }
     ensures ref_ptr_value { result.ref_ptr ≡ begin_of image.entry.ref_ptr (sized image.now (part_in kind window image.now d i)) }
 {
     match part_in(image, kind, window, d, i) {
-        PartAnswer::Given(p) => {
+        Ok(p) => {
             let start = p.place.0 as usize;
             let end = start + p.length;
             &image[start..end]
         }
-        PartAnswer::Refused(_) => &image[0..0],
+        Err(_) => &image[0..0],
     }
 }

@@ -1,70 +1,25 @@
 // Those of document 01's values to hold against the work that stand beside M1 to M10. Each call's answer is a line, in the words of the ask language.
 #![tactic(auto)]
 
-use aspt::{CheckAnswer, Structure, Table, TableAnswer};
+use aspt::{Structure, Table};
 use build::Fields;
-use entries::PartAnswer;
 use firmware::Firmware;
 use guids::Guid;
-use reply::{Fault, Met, Refusal};
+use std::fmt::Display;
 use std::io;
 use window::Offset;
 
-fn show(rt: &impl Print, text: &str) -> io::Result<()> {
-    print!(rt; "{text}")
-}
-
-fn show_decimal(rt: &impl Print, name: &str, number: u64) -> io::Result<()> {
-    print!(rt; "{name}{number}")
-}
-
-fn show_refusal(rt: &impl Print, why: Refusal) -> io::Result<()> {
-    show_decimal(rt, "refused ", why.number as u64)?;
-    show(rt, "\n")
-}
-
-// A refusal of a directory, and where it was met: the level of a header, or the level and index of an entry.
-fn show_fault(rt: &impl Print, why: Fault) -> io::Result<()> {
-    show_decimal(rt, "refused ", why.number as u64)?;
-    let place = why.met;
-    match place {
-        Met::Alone => {}
-        Met::Header {
-            level,
-            directory: _,
-        } => show_decimal(rt, " level=", level as u64)?,
-        Met::Entry {
-            level,
-            index,
-            directory: _,
-        } => {
-            show_decimal(rt, " level=", level as u64)?;
-            show_decimal(rt, " index=", index as u64)?;
-        }
-    }
-    show(rt, "\n")
-}
-
-fn show_total(rt: &impl Print, total: u32) -> io::Result<()> {
-    show_decimal(rt, "ok total=", total as u64)?;
-    show(rt, "\n")
-}
-
-fn show_guid_total(rt: &impl Print, answer: guids::LengthAnswer) -> io::Result<()> {
+fn show_total<E: Display + Drop>(rt: &impl Print, answer: Result<u32, E>) -> io::Result<()> {
     match answer {
-        guids::LengthAnswer::Given(total) => show_total(rt, total),
-        guids::LengthAnswer::Refused(why) => show_refusal(rt, why),
+        Ok(total) => println!(rt; "ok total={total}"),
+        Err(refusal) => println!(rt; "{refusal}"),
     }
 }
 
 fn show_guids(rt: &impl Print, image: &[u8]) -> io::Result<()> {
     match guids::table(image) {
-        guids::TotalsAnswer::Given(t) => {
-            show_decimal(rt, "ok total=", t.total as u64)?;
-            show_decimal(rt, " entries=", t.entries as u64)?;
-            show(rt, "\n")
-        }
-        guids::TotalsAnswer::Refused(why) => show_refusal(rt, why),
+        Ok(t) => println!(rt; "ok total={} entries={}", t.total, t.entries),
+        Err(refusal) => println!(rt; "{refusal}"),
     }
 }
 
@@ -85,20 +40,18 @@ fn three_entries(rt: &impl Print) -> io::Result<()> {
         low: 0x4B04_3A3B_7255_371F,
         high: 0x54D4_A8EF_A61D_7B92,
     };
-    show_guid_total(rt, guids_build::start(&mut image))?;
-    show_guid_total(rt, guids_build::extend(&mut image, reset, &short))?;
-    show_guid_total(rt, guids_build::extend(&mut image, secret, &long))?;
-    show_guid_total(rt, guids_build::extend(&mut image, hashes, &long))?;
+    show_total(rt, guids_build::start(&mut image))?;
+    show_total(rt, guids_build::extend(&mut image, reset, &short))?;
+    show_total(rt, guids_build::extend(&mut image, secret, &long))?;
+    show_total(rt, guids_build::extend(&mut image, hashes, &long))?;
     show_guids(rt, &image)?;
     le::put16(&mut image, 142, 0x72);
     show_guids(rt, &image)
 }
 
 fn show_directory(rt: &impl Print, buf: &[u8]) -> io::Result<()> {
-    match directory::directory_by_cookie(buf, directory::psp_kind(), 512, Offset(0)) {
-        directory::DirectoryAnswer::Given(d) => show_total(rt, d.total()),
-        directory::DirectoryAnswer::Refused(why) => show_fault(rt, why),
-    }
+    let answer = directory::directory_by_cookie(buf, directory::psp_kind(), 512, Offset(0));
+    show_total(rt, answer.map(|d| d.total()))
 }
 
 // The directory at a buffer's start, of so many entries, with the checksum due.
@@ -113,10 +66,8 @@ fn seal(buf: &mut [u8], n: u32) {
 
 // Numbers 512 entries by their types and subprograms.
 fn number_entries(buf: &mut [u8]) {
-    let mut i: u32 = 0;
-    while i < 512 {
-        le::put16(buf, 16 + 16 * (i as usize), i as u16);
-        i += 1;
+    for i in 0..512u16 {
+        le::put16(buf, 16 + 16 * (i as usize), i);
     }
 }
 
@@ -138,51 +89,42 @@ fn largest_directory(rt: &impl Print) -> io::Result<()> {
     show_directory(rt, &buf)
 }
 
-fn show_built(rt: &impl Print, answer: build::TotalAnswer) -> io::Result<()> {
-    match answer {
-        build::TotalAnswer::Given(total) => show_total(rt, total),
-        build::TotalAnswer::Refused(why) => show_fault(rt, why),
-    }
-}
-
 // Bytes of an entry, so many from 0x20 on, in an image of 64 bytes whose directory stands at its start.
 fn range_of(rt: &impl Print, size: u32) -> io::Result<()> {
     let mut image = [0u8; 64];
     let entry = Fields {
         class: 1,
         subprogram: 0,
-        size: size,
+        size,
         location: 0x20,
         mode: 1,
     };
-    show_built(rt, build::start(&mut image, 1))?;
-    show_built(rt, build::extend(&mut image, entry))?;
+    show_total(rt, build::start(&mut image, 1))?;
+    show_total(rt, build::extend(&mut image, entry))?;
     match place::part_at(&image, Offset(0), 0) {
-        PartAnswer::Given(p) => {
-            let begin = p.place;
-            let place = begin.0;
-            print!(rt; "ok place=0x{place:x}")?;
-            show_decimal(rt, " length=", p.length as u64)?;
-            show(rt, "\n")
-        }
-        PartAnswer::Refused(why) => show_fault(rt, why),
+        Ok(p) => println!(rt; "ok place=0x{:x} length={}", p.place.0, p.length),
+        Err(fault) => println!(rt; "{fault}"),
     }
 }
 
-fn show_reading(rt: &impl Print, bytes: &[u8]) -> io::Result<()> {
-    match aspt::read(bytes) {
-        TableAnswer::Given(_) => show(rt, "ok\n"),
-        TableAnswer::Refused(why) => show_refusal(rt, why),
+// Whether a call on an ASPT accepts.
+fn show_accepted<T: Drop, E: Display + Drop>(
+    rt: &impl Print,
+    answer: Result<T, E>,
+) -> io::Result<()> {
+    match answer {
+        Ok(_) => println!(rt; "ok"),
+        Err(refusal) => println!(rt; "{refusal}"),
     }
 }
 
 fn structure(class: u16, id: u8, first: u32, second: u32, third: u32) -> Structure {
     Structure {
-        class: class,
-        id: id,
-        first: first,
-        second: second,
-        third: third,
+        class,
+        id,
+        first,
+        second,
+        third,
     }
 }
 
@@ -202,21 +144,17 @@ fn sum_of_the_table_alone(rt: &impl Print) -> io::Result<()> {
         second: structure(1, 1, 0x20, 0x24, 0x28),
         third: structure(2, 0, 0x30, 0, 0),
     };
-    match aspt_build::write(&mut buf, table) {
-        CheckAnswer::Accepted => show(rt, "ok\n")?,
-        CheckAnswer::Refused(why) => show_refusal(rt, why)?,
-    }
-    show_reading(rt, &buf)?;
+    show_accepted(rt, aspt_build::write(&mut buf, table))?;
+    show_accepted(rt, aspt::read(&buf))?;
     // One less in the checksum, and one behind the table: all 113 bytes sum to 0.
     le::put8(&mut buf, 9, 0xCD);
     le::put8(&mut buf, 112, 1);
-    show_reading(rt, &buf)
+    show_accepted(rt, aspt::read(&buf))
 }
 
 fn run(rt: &impl Print, f: Firmware, asked: u32) -> io::Result<Firmware> {
     let ran = f.run(asked);
-    let word = ran.word;
-    println!(rt; "ok word=0x{word:08x}")?;
+    println!(rt; "ok word=0x{:08x}", ran.word)?;
     Ok(ran.firmware)
 }
 

@@ -9,7 +9,7 @@ use Rattle.firmware.specs.Word.{command_in, data_in, word_of}
 use Rattle.firmware.specs.Rules.{answers, id_in, kept_for, when_saved, delivering, delivery_of, rule_of}
 use Rattle.firmware.specs.Responses.{Fields, Responds, Responses}
 use Rattle.firmware.specs.declared.Descriptor.{Descriptor}
-use Rattle.firmware.specs.declared.Descriptor.TheVariants.{Absent, Saved}
+use Rattle.std.specs.Prelude.{Option, Some, None}
 use Rattle.firmware.specs.declared.Firmware.{Firmware}
 use Rattle.firmware.specs.declared.Ran.{Ran}
 
@@ -55,9 +55,9 @@ module _ (f : Firmware) (w : ℕ) where
       (λ _. either Fits (not (eqb (data_in w / 2 % 512) 0)) _ _ (λ _. keeps 0x1F 0x85 c)
       (λ _. saved (kept_for f (id_in (data_in w))).descriptor))
     where
-      saved : (d : Descriptor) → Fits (when_saved d (answers f 2 0x85 (data_in w)) (answers (delivering f (data_in w)) 0 0x85 (data_in w)))
-      saved Absent = keeps 2 0x85 c
-      saved (Saved one two three) = succeeds (delivering f (data_in w)) 0x85 (data_in w) c (λ _. refl)
+      saved : (d : Option Descriptor) → Fits (when_saved d (answers f 2 0x85 (data_in w)) (answers (delivering f (data_in w)) 0 0x85 (data_in w)))
+      saved None = keeps 2 0x85 c
+      saved (Some kept) = succeeds (delivering f (data_in w)) 0x85 (data_in w) c (λ _. refl)
 
   fits : (c : ℕ) → c ≡ command_in w → Fits (rule_of f c (data_in w))
   unfolding rule_of

@@ -3,26 +3,20 @@
 
 ghost use Rattle.std.specs.Prelude.{◌≡◌};
 ghost use Rattle.firmware.specs.Word.{word_of};
-ghost use Rattle.firmware.specs.Rules.{fresh_firmware, answers, holding, settled_of, delivery_of, run_of};
+ghost use Rattle.firmware.specs.Rules.{status_number, fresh_firmware, answers, settled_of, delivery_of, run_of};
 
-// One of the three parts that commands 0x82 to 0x84 bring.
+// A descriptor, saved from the parts that commands 0x82 to 0x84 bring.
 #[derive(Clone, Copy)]
-pub enum Part {
-    Absent,
-    Held(u16),
-}
-
-// A descriptor, saved from its three parts, or none.
-#[derive(Clone, Copy)]
-pub enum Descriptor {
-    Absent,
-    Saved { part1: u16, part2: u16, part3: u16 },
+pub struct Descriptor {
+    pub part1: u16,
+    pub part2: u16,
+    pub part3: u16,
 }
 
 // What is kept for one ID.
 #[derive(Clone, Copy)]
 pub struct Interrupt {
-    pub descriptor: Descriptor,
+    pub descriptor: Option<Descriptor>,
     pub delivery: bool,
 }
 
@@ -30,9 +24,9 @@ pub struct Interrupt {
 #[derive(Clone, Copy)]
 pub struct Firmware {
     pub interface: bool,
-    pub part1: Part,
-    pub part2: Part,
-    pub part3: Part,
+    pub part1: Option<u16>,
+    pub part2: Option<u16>,
+    pub part3: Option<u16>,
     pub interrupts: [Interrupt; 64],
 }
 
@@ -43,7 +37,18 @@ pub struct Ran {
     pub word: u32,
 }
 
+// How a command went, by the number in its response.
+#[derive(Clone, Copy)]
+pub enum Status {
+    Success = 0,
+    UnknownCommand = 1,
+    NoDescriptor = 2,
+    InterfaceOn = 3,
+    BitsSet = 0x1F,
+}
+
 // The CmdResp word of four fields, each cut to its width.
+#[tactic(auto, unfolding(crate::specs::Word::word_of))]
 pub fn word(response: u32, status: u32, command: u32, data: u32) -> u32
     ensures { result ≡ word_of response status command «data» }
 {
@@ -54,7 +59,7 @@ pub fn word(response: u32, status: u32, command: u32, data: u32) -> u32
 }
 
 impl Firmware {
-    // The command codes of source 000, 2.3.2.
+    // The command codes of source 000, 2.3.2. Numbers and no enum, since any of 1,024 codes may be asked.
     pub const DISABLE_INTERFACE: u32 = 0x80;
 
     pub const QUERY_INTERFACE: u32 = 0x81;
@@ -72,130 +77,115 @@ impl Firmware {
         ensures { result ≡ fresh_firmware }
     {
         let nothing = Interrupt {
-            descriptor: Descriptor::Absent,
+            descriptor: None,
             delivery: false,
         };
-        let interrupts = [nothing; 64];
         Firmware {
             interface: true,
-            part1: Part::Absent,
-            part2: Part::Absent,
-            part3: Part::Absent,
-            interrupts: interrupts,
+            part1: None,
+            part2: None,
+            part3: None,
+            interrupts: [nothing; 64],
         }
     }
 
-    // The state with these parts held: where all three are, they are saved under their ID instead.
-    fn settled(self, part1: Part, part2: Part, part3: Part) -> Self
-        ensures { result ≡ settled_of (holding self part1 part2 part3) }
+    // Where all three parts are held, they are saved under their ID instead.
+    #[tactic(auto, unfolding(crate::specs::Rules::settled_of))]
+    fn settled(self) -> Self
+        ensures { result ≡ settled_of self }
     {
-        let mut interrupts = self.interrupts;
-        let held = Firmware {
-            interface: self.interface,
-            part1: part1,
-            part2: part2,
-            part3: part3,
-            interrupts: interrupts,
+        let (Some(part1), Some(part2), Some(part3)) = (self.part1, self.part2, self.part3) else {
+            return self;
         };
-        match part1 {
-            Part::Absent => held,
-            Part::Held(one) => match part2 {
-                Part::Absent => held,
-                Part::Held(two) => match part3 {
-                    Part::Absent => held,
-                    Part::Held(three) => {
-                        let id = (three / 1024 % 64) as usize;
-                        let old = interrupts[id];
-                        interrupts[id] = Interrupt {
-                            descriptor: Descriptor::Saved {
-                                part1: one,
-                                part2: two,
-                                part3: three,
-                            },
-                            delivery: old.delivery,
-                        };
-                        Firmware {
-                            interface: self.interface,
-                            part1: Part::Absent,
-                            part2: Part::Absent,
-                            part3: Part::Absent,
-                            interrupts: interrupts,
-                        }
-                    }
-                },
-            },
-        }
+        let mut next = Firmware {
+            part1: None,
+            part2: None,
+            part3: None,
+            ..self
+        };
+        let id = usize::from(part3 / 1024 % 64);
+        next.interrupts[id].descriptor = Some(Descriptor {
+            part1,
+            part2,
+            part3,
+        });
+        next
     }
 
     // This state, and the response with a status.
-    fn answers(self, status: u32, command: u32, data: u32) -> Ran
-        ensures { result ≡ answers self status command «data» }
+    fn answers(self, status: Status, command: u32, data: u32) -> Ran
+        ensures { result ≡ answers self (status_number status) command «data» }
     {
         Ran {
             firmware: self,
-            word: word(1, status, command, data),
+            word: word(1, status as u32, command, data),
         }
     }
 
     // Command 0x85.
+    #[tactic(auto, unfolding(crate::specs::Rules::delivery_of))]
     fn delivery(self, data: u32) -> Ran
         ensures { result ≡ delivery_of self «data» }
     {
         if self.interface {
-            return self.answers(3, Firmware::ENABLE_DELIVERY, data);
+            return self.answers(Status::InterfaceOn, Firmware::ENABLE_DELIVERY, data);
         }
-        if data / 2 % 512 == 0 {
-            let id = (data / 1024 % 64) as usize;
-            let old = self.interrupts[id];
-            let descriptor = old.descriptor;
-            match descriptor {
-                Descriptor::Absent => self.answers(2, Firmware::ENABLE_DELIVERY, data),
-                Descriptor::Saved {
-                    part1: _,
-                    part2: _,
-                    part3: _,
-                } => {
-                    let mut next = self;
-                    next.interrupts[id] = Interrupt {
-                        descriptor: descriptor,
-                        delivery: data % 2 == 1,
-                    };
-                    next.answers(0, Firmware::ENABLE_DELIVERY, data)
-                }
-            }
-        } else {
-            self.answers(0x1F, Firmware::ENABLE_DELIVERY, data)
+        if data / 2 % 512 != 0 {
+            return self.answers(Status::BitsSet, Firmware::ENABLE_DELIVERY, data);
         }
+        let id = (data / 1024 % 64) as usize;
+        if self.interrupts[id].descriptor.is_none() {
+            return self.answers(Status::NoDescriptor, Firmware::ENABLE_DELIVERY, data);
+        }
+        let mut next = self;
+        next.interrupts[id].delivery = data % 2 == 1;
+        next.answers(Status::Success, Firmware::ENABLE_DELIVERY, data)
     }
 
     // One command word run to its response.
+    #[tactic(auto, unfolding(crate::specs::Rules::rule_of))]
     pub fn run(self, asked: u32) -> Ran
         ensures { result ≡ run_of self asked }
     {
         let command = asked / 0x1_0000 % 1024;
         let data = asked % 0x1_0000;
-        let part = Part::Held(data as u16);
-        let part1 = self.part1;
-        let part2 = self.part2;
-        let part3 = self.part3;
+        let part = Some(data as u16);
         match command {
             Firmware::DISABLE_INTERFACE => {
-                let mut next = self;
-                next.interface = false;
-                next.answers(0, command, data)
+                let next = Firmware {
+                    interface: false,
+                    ..self
+                };
+                next.answers(Status::Success, command, data)
             }
-            Firmware::QUERY_INTERFACE => {
-                if self.interface {
-                    self.answers(0, command, 1)
-                } else {
-                    self.answers(0, command, 0)
-                }
+            Firmware::QUERY_INTERFACE => self.answers(
+                Status::Success,
+                command,
+                u32::from(self.interface),
+            ),
+            Firmware::SET_PART1 => {
+                let next = Firmware {
+                    part1: part,
+                    ..self
+                };
+                next.settled().answers(Status::Success, command, data)
             }
-            Firmware::SET_PART1 => self.settled(part, part2, part3).answers(0, command, data),
-            Firmware::SET_PART2 => self.settled(part1, part, part3).answers(0, command, data),
-            Firmware::SET_PART3 => self.settled(part1, part2, part).answers(0, command, data),
+            Firmware::SET_PART2 => {
+                let next = Firmware {
+                    part2: part,
+                    ..self
+                };
+                next.settled().answers(Status::Success, command, data)
+            }
+            Firmware::SET_PART3 => {
+                let next = Firmware {
+                    part3: part,
+                    ..self
+                };
+                next.settled().answers(Status::Success, command, data)
+            }
             Firmware::ENABLE_DELIVERY => self.delivery(data),
-            _ => self.answers(1, command, data),
+            _ => self.answers(Status::UnknownCommand, command, data),
         }
     }
 }

@@ -12,7 +12,7 @@ use Rattle.directory.specs.Directory.{directory_at}
 use Rattle.entries.specs.Entry.{entry_of}
 use Rattle.entries.specs.Part.{leads_to}
 use Rattle.directory.specs.Good.{GoodDirectory}
-use Rattle.entries.specs.Good.{Leads, BeginsAt}
+use Rattle.entries.specs.Good.{BeginsAt}
 use Rattle.directory.specs.declared.Directory.{Directory}
 use Rattle.entries.specs.declared.Lead.{Lead}
 use Rattle.directory.proofs.Accept.{acceptance}
@@ -25,7 +25,7 @@ use Rattle.efs.specs.declared.Rules.{Rules}
 use Rattle.efs.specs.declared.Pointer.{Pointer}
 use Rattle.efs.proofs.Accept.{pointer_acceptance}
 use Rattle.flash.specs.Flash.{level_one, level_two_at, level_two, flash_directory}
-use Rattle.flash.specs.Good.{GoodOne, GoodTwo, GoodLevel, of_one, of_two, FlashAcceptance, LevelsAccepted}
+use Rattle.flash.specs.Good.{GoodOne, GoodTwo, GoodLevel, of_one, of_two, LevelsAccepted}
 use Rattle.flash.proofs.Ways.{Opened, one, two, opened, open_one, open_two, led_given}
 
 -- a directory begins within the image

@@ -1,7 +1,7 @@
 -- Two images with the same way to a directory and the same bytes of it have the same replies of it. Assumes nothing.
 use mathlib.Core.Path.{◌≡◌, refl, sym, ap, ◌∙◌}
 use mathlib.Core.List.{List}
-use Prim.Native.Nat.{ℕ, ◌+◌, ◌≤◌}
+use Prim.Native.Nat.{ℕ, ◌≤◌}
 use native.Mathlib.Omega.{arith}
 use lib.ListN.{length}
 use Rattle.reply.specs.Reply.{Reply, given, in_entry, then, met}
@@ -22,9 +22,9 @@ use Rattle.efs.specs.Efs.{efs_place, efs_at, efs_in, pointer_to, pointer_of, poi
 use Rattle.efs.specs.declared.Efs.{Efs}
 use Rattle.efs.specs.declared.Pointer.{Pointer}
 use Rattle.efs.specs.declared.Rules.{Rules}
-use Rattle.flash.specs.Flash.{level_one, level_two, level_two_at, flash_directory, flash_entry, flash_part, from_lookup, flash_find}
+use Rattle.flash.specs.Flash.{level_one, level_two_at, flash_directory, from_lookup, flash_find}
 use Rattle.window.specs.Inside.{GoodLength}
-use Rattle.flash.specs.Independent.{SameWay, SameAnswers, FlashIndependence}
+use Rattle.flash.specs.Independent.{SameWay, FlashIndependence}
 use Rattle.flash.proofs.Ways.{Opened, one, two, opened, open_one, open_two, led_given}
 
 -- a directory that is given is given by every image that agrees on it

@@ -2,25 +2,26 @@
 use mathlib.Core.Path.{◌≡◌, refl, sym, ap, ◌∙◌}
 use mathlib.Core.List.{List}
 use mathlib.Core.Bool.{Bool, true, false, cond}
-use Prim.Native.Nat.{ℕ, ◌<◌, ◌≤◌}
+use Prim.Native.Nat.{ℕ, ◌≤◌}
 use native.Mathlib.Omega.{arith}
-use borrow.Author.Tests.{leb-true, le-leb, eqb-true, eqb-false, eq-eqb, ne_eqb}
-use lib.ListN.{length}
+use borrow.Author.Tests.{leb-true, eqb-true, eqb-false}
 use lib.Dec.{leb, eqb}
 use Rattle.reply.specs.Reply.{Reply, given, in_entry, then, met}
-use Rattle.reply.proofs.ReplyLaws.{past, passed, then_given, met_given}
+use Rattle.reply.proofs.ReplyLaws.{past, then_given, met_given}
 use Rattle.window.specs.declared.Offset.{Offset}
 use Rattle.directory.specs.Directory.{directory_at}
 use Rattle.entries.specs.Entry.{lead_in}
-use Rattle.entries.specs.Part.{leads_to}
+use Rattle.entries.specs.Part.{leads_to, part_in}
 use Rattle.directory.specs.declared.Directory.{Directory}
 use Rattle.entries.specs.declared.Lead.{Lead}
 use Rattle.directory.proofs.Accept.{acceptance}
 use Rattle.efs.specs.Efs.{pointer_in}
 use Rattle.window.specs.Inside.{GoodLength}
+use Rattle.window.specs.Length.{sized}
+use Rattle.efs.specs.Rules.{rules_of}
 use Rattle.efs.specs.declared.Rules.{Rules}
 use Rattle.window.proofs.Length.{sized_passed, sized_past}
-use Rattle.flash.specs.Flash.{level_one, level_two, level_of, flash_directory}
+use Rattle.flash.specs.Flash.{level_one, level_two, level_of, flash_directory, flash_part}
 
 -- the two ways to a directory
 pub data Opened (r : Rules) (s : List ℕ) (d : Directory) : ℕ → Type 0 where
@@ -71,3 +72,10 @@ opened_small r s d level e = let o = opened r s d level e in (o.0, by o.1)
         let t = then_given (pointer_in r s) (λ p. directory_at r.kind r.limit 1 s p.place.0) q in
         (acceptance.only r.kind r.limit 1 s t.0.place.0 d t.2).0.few
     by (two above a q) = let t = led_given r s above d q in (acceptance.only r.kind r.limit 2 s t.2.0 d t.4).0.few
+
+-- the part of an entry of such a directory, by the rules of the image
+pub part_led : (s : List ℕ) (level i : ℕ) (r : Rules) (d : Directory) → r ≡ rules_of s → given d ≡ flash_directory r level s → sized s (part_in r.kind r.window s d i) ≡ flash_part (rules_of s) level s i
+part_led s level i r d e g =
+    sized_passed s _ (opened_small r s d level (sym g)).0
+    ∙ ap (λ (x : Reply Directory). then x (λ d. part_in r.kind r.window s d i)) g
+    ∙ ap (λ (r : Rules). flash_part r level s i) e

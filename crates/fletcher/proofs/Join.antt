@@ -2,7 +2,7 @@
 use mathlib.Core.Path.{◌≡◌, ap, ◌∙◌}
 use mathlib.Core.List.{List, ◌∷◌, ◌++◌}
 use Prim.Native.Nat.{ℕ, ◌+◌, ◌*◌, ◌%◌}
-use native.Mathlib.Nat.{mul-add, mod-mod}
+use native.Mathlib.Nat.{mul-add}
 use native.Mathlib.Omega.{arith}
 use lib.ListN.{length}
 use Rattle.fletcher.specs.Fletcher.{sum_of, weighted_of, written_of, field_of}
@@ -57,7 +57,3 @@ raised u us =
 
 pub made_of_checksums : MadeOfChecksums
 made_of_checksums = record { joined = joined; raised = raised }
-
--- the checksum of sums that were folded
-pub field_folded : (x y weighted sum r : ℕ) → weighted ≡ x % 65535 → sum ≡ y % 65535 → r ≡ written_of weighted * 65536 + written_of sum → r ≡ written_of x * 65536 + written_of y
-field_folded x y weighted sum r e f g = g ∙ rw (e, f, written_same (x % 65535) x (mod-mod x 65535), written_same (y % 65535) y (mod-mod y 65535))

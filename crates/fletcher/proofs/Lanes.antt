@@ -1,7 +1,7 @@
 -- Four words at a time: each has 32 bits of its own to be added up in. Assumes nothing.
 use mathlib.Core.Path.{◌≡◌, ap, ◌∙◌}
 use mathlib.Core.List.{List, [], ◌∷◌, ◌++◌}
-use Prim.Native.Nat.{ℕ, ◌+◌, ◌*◌, ◌-◌, ◌/◌, ◌%◌, ◌^◌, ◌≤◌, ◌<◌}
+use Prim.Native.Nat.{ℕ, ◌+◌, ◌*◌, ◌-◌, ◌/◌, ◌%◌, ◌≤◌, ◌<◌}
 use native.Mathlib.Omega.{arith}
 use Rattle.le.specs.Le.{le_at, Bytes}
 use Rattle.le.proofs.Laws.{le_split, le_small}
@@ -43,7 +43,7 @@ lane_more : (k sum sums w : ℕ) → Lane k sum sums → w ≤ 65535 → k + 1 �
 lane_more k sum sums w l h few = record { low = omega (arith, l.low); high = omega (arith, l.low, l.high) }
 
 -- after k times four words from sums x and y on: what stands in each 32 bits, how large it is, and what the sums come to
-pub record Lanes (s : List ℕ) (from x y k odd even odd-sums even-sums : ℕ) : Type 0 where
+pub record Lanes (s : List ℕ) (x y k odd even odd-sums even-sums : ℕ) : Type 0 where
   pub a1 : ℕ
   pub a2 : ℕ
   pub a3 : ℕ
@@ -61,12 +61,12 @@ pub record Lanes (s : List ℕ) (from x y k odd even odd-sums even-sums : ℕ) :
   pub lane2 : Lane k a2 b2
   pub lane3 : Lane k a3 b3
   pub lane4 : Lane k a4 b4
-  pub low : a1 + a2 + a3 + a4 ≡ sum_after x (words_at (4 * k) s (from * 2))
-  pub high : y + 4 * (b1 + b2 + b3 + b4) ≡ weighted_after x y (words_at (4 * k) s (from * 2)) + (a2 + 2 * a3 + 3 * a4)
+  pub low : a1 + a2 + a3 + a4 ≡ sum_after x (words_at (4 * k) s 0)
+  pub high : y + 4 * (b1 + b2 + b3 + b4) ≡ weighted_after x y (words_at (4 * k) s 0) + (a2 + 2 * a3 + 3 * a4)
 
-pub lanes_start : (s : List ℕ) (from x y : ℕ) → x ≤ 65534 → Lanes s from x y 0 x 0 0 0
+pub lanes_start : (s : List ℕ) (x y : ℕ) → x ≤ 65534 → Lanes s x y 0 x 0 0 0
 unfolding words_at sum_after weighted_after
-lanes_start s from x y h =
+lanes_start s x y h =
     let none : Lane 0 0 0 = record { low = omega arith; high = omega arith } in
     record {
       a1 = x;
@@ -90,14 +90,14 @@ lanes_start s from x y h =
       high = omega arith;
     }
 
-module _ (s : List ℕ) (from x y k odd even odd-sums even-sums : ℕ) (l : Lanes s from x y k odd even odd-sums even-sums) where
+module _ (s : List ℕ) (x y k odd even odd-sums even-sums : ℕ) (l : Lanes s x y k odd even odd-sums even-sums) where
   -- four words more
-  pub lanes_more : Bytes s → (four : ℕ) → four ≡ le_at 8 s ((from + 4 * k) * 2) → k + 1 ≤ 89 → (p q : ℕ) →
+  pub lanes_more : Bytes s → (four : ℕ) → four ≡ le_at 8 s (8 * k) → k + 1 ≤ 89 → (p q : ℕ) →
       p ≡ four % 65536 + 4294967296 * (four / 4294967296 % 65536) → q ≡ four / 65536 % 65536 + 4294967296 * (four / 65536 / 4294967296 % 65536) →
-      Lanes s from x y (k + 1) (odd + p) (even + q) (odd-sums + (odd + p)) (even-sums + (even + q))
+      Lanes s x y (k + 1) (odd + p) (even + q) (odd-sums + (odd + p)) (even-sums + (even + q))
   unfolding words_at sum_after weighted_after
   lanes_more bytes four e h p q pe qe =
-      let o = from * 2 + 4 * k * 2 in
+      let o = 0 + 4 * k * 2 in
       let w1 = le_at 2 s o in
       let w2 = le_at 2 s (o + 2) in
       let w3 = le_at 2 s (o + 2 + 2) in
@@ -109,15 +109,15 @@ module _ (s : List ℕ) (from x y k odd even odd-sums even-sums : ℕ) (l : Lane
       let f4 : w4 ≤ 65535 = small (o + 2 + 2 + 2) in
       let f = e ∙ ap (le_at 8 s) (omega arith) ∙ number_is s o in
       let count : 4 * (k + 1) ≡ 4 * k + 4 = omega arith in
-      more w1 w2 w3 w4 f1 f2 f3 f4 (ap (λ (j : ℕ). words_at j s (from * 2)) count ∙ words_add (4 * k) 4 s (from * 2))
+      more w1 w2 w3 w4 f1 f2 f3 f4 (ap (λ (j : ℕ). words_at j s 0) count ∙ words_add (4 * k) 4 s 0)
       (pe ∙ alternate_is w1 w2 w3 w4 f1 f2 f3 four f) (qe ∙ alternate_is w2 w3 w4 0 f2 f3 f4 (four / 65536) (next_is w1 w2 w3 w4 f1 f2 f3 four f))
     where
       more : (w1 w2 w3 w4 : ℕ) → w1 ≤ 65535 → w2 ≤ 65535 → w3 ≤ 65535 → w4 ≤ 65535 →
-          words_at (4 * (k + 1)) s (from * 2) ≡ words_at (4 * k) s (from * 2) ++ (w1 ∷ w2 ∷ w3 ∷ w4 ∷ []) →
-          p ≡ w1 + 4294967296 * w3 → q ≡ w2 + 4294967296 * w4 → Lanes s from x y (k + 1) (odd + p) (even + q) (odd-sums + (odd + p)) (even-sums + (even + q))
+          words_at (4 * (k + 1)) s 0 ≡ words_at (4 * k) s 0 ++ (w1 ∷ w2 ∷ w3 ∷ w4 ∷ []) →
+          p ≡ w1 + 4294967296 * w3 → q ≡ w2 + 4294967296 * w4 → Lanes s x y (k + 1) (odd + p) (even + q) (odd-sums + (odd + p)) (even-sums + (even + q))
       more w1 w2 w3 w4 f1 f2 f3 f4 run pw qw =
           let four = w1 ∷ w2 ∷ w3 ∷ w4 ∷ [] in
-          let us = words_at (4 * k) s (from * 2) in
+          let us = words_at (4 * k) s 0 in
           let S = ap (sum_after x) run ∙ after_sum four us x in
           let T = ap (weighted_after x y) run ∙ after_weighted four us x y in
           record {
@@ -155,30 +155,13 @@ module _ (s : List ℕ) (from x y k odd even odd-sums even-sums : ℕ) (l : Lane
   even_sums_is : (even-sums % 4294967296 ≡ l.b2) × (even-sums / 4294967296 ≡ l.b4)
   even_sums_is = parted even-sums l.b2 l.b4 l.is_even_sums (omega (arith, l.lane2.high, l.few))
 
-  -- a number of 64 bits has room for two words more, and for the sums with them
-  pub room : (odd + odd-sums + 65535 * 4294967297 < 2 ^ 64) × (even + even-sums + 65535 * 4294967297 < 2 ^ 64)
-  room =
-      (omega (arith, l.is_odd, l.is_odd_sums, l.lane1, l.lane3, l.few), omega (arith, l.is_even, l.is_even_sums, l.lane2, l.lane4, l.few))
-
-  -- what they come to is what the words lead to, and 32 bits hold that
-  module _ (low high less : ℕ) (pl : low ≡ across_of odd even) (ph : high ≡ across_of odd-sums even-sums) (pe : less ≡ excess_of odd even) where
-    low_is : low ≡ l.a1 + l.a2 + l.a3 + l.a4
-    low_is = pl ∙ rw (odd_is.0, even_is.0, odd_is.1, even_is.1)
-
+  -- what the sums of the sums come to is what the words lead to
+  module _ (high less : ℕ) (ph : high ≡ across_of odd-sums even-sums) (pe : less ≡ excess_of odd even) where
     high_is : high ≡ l.b1 + l.b2 + l.b3 + l.b4
     high_is = ph ∙ rw (odd_sums_is.0, even_sums_is.0, odd_sums_is.1, even_sums_is.1)
 
     less_is : less ≡ l.a2 + 2 * l.a3 + 3 * l.a4
     less_is = pe ∙ rw (even_is.0, odd_is.1, even_is.1)
 
-    pub sum_is : low ≡ sum_after x (words_at (4 * k) s (from * 2))
-    sum_is = low_is ∙ l.low
-
-    pub weighted_is : y + 4 * high - less ≡ weighted_after x y (words_at (4 * k) s (from * 2))
+    pub weighted_is : y + 4 * high - less ≡ weighted_after x y (words_at (4 * k) s 0)
     weighted_is = omega (arith, high_is, less_is, l.high)
-
-    pub less_most : less ≤ y + 4 * high
-    less_most = omega (arith, high_is, less_is, l.high)
-
-    pub high_small : high < 2 ^ 32
-    high_small = omega (arith, high_is, l.lane1.high, l.lane2.high, l.lane3.high, l.lane4.high, l.few)

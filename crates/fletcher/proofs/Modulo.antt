@@ -1,10 +1,10 @@
 -- Numbers that come to the same modulo 65,535 are as good as each other in a sum, and are written the same. Assumes nothing.
 use mathlib.Core.Path.{◌≡◌, refl, sym, ap, ◌∙◌}
 use mathlib.Core.Bool.{Bool, true, false, cond}
-use Prim.Native.Nat.{ℕ, zero, suc, ◌+◌, ◌*◌, ◌%◌, ◌<◌}
-use native.Mathlib.Nat.{suc-mul, mod-mod, mod-eq_of_lt}
+use Prim.Native.Nat.{ℕ, zero, suc, ◌+◌, ◌*◌, ◌%◌}
+use native.Mathlib.Nat.{suc-mul, mod-mod}
 use native.Mathlib.Omega.{arith}
-use borrow.Author.Tests.{eqb-true, ne_eqb}
+use borrow.Author.Tests.{eqb-true}
 use lib.Dec.{eqb}
 use Rattle.fletcher.specs.Fletcher.{written_of}
 
@@ -36,6 +36,9 @@ weighted_same n p q x y z e f =
 pub written_same : (x y : ℕ) → Same x y → written_of x ≡ written_of y
 written_same x y e = rw e
 
+pub written_mod : (x : ℕ) → written_of (x % 65535) ≡ written_of x
+written_mod x = written_same (x % 65535) x (mod-mod x 65535)
+
 -- a sum as it is written comes to the same as the sum
 pub as_written : (x : ℕ) → Same (written_of x) x
 as_written x = by (eqb (x % 65535) 0) refl
@@ -43,11 +46,3 @@ as_written x = by (eqb (x % 65535) 0) refl
     by : (b : Bool) → eqb (x % 65535) 0 ≡ b → cond b 65535 (x % 65535) % 65535 ≡ x % 65535
     by true e = sym (eqb-true (x % 65535) 0 e)
     by false e = mod-mod x 65535
-
--- how a folded sum is written
-module _ (x : ℕ) where
-  pub written_zero : x ≡ 0 → 65535 ≡ written_of x
-  written_zero e = rw e
-
-  pub written_folded : x < 65535 → (x ≡ 0 → ⊥) → x ≡ written_of x
-  written_folded h e = rw (mod-eq_of_lt h, ne_eqb x 0 e)

@@ -9,12 +9,23 @@ use Rattle.le.specs.Field.{Field, get}
 use Rattle.le.proofs.Part.{le_part}
 use Rattle.le.proofs.Numbers.{held, held_again}
 use Rattle.guids.specs.declared.Guid.{Guid}
+use Rattle.guids.specs.Ending as ending
 use Rattle.guids.specs.Table.{length_at, guid_at, end_fields, end_bytes}
 use Rattle.guids.specs.Layout.{Sixteen}
 
 -- a field of an end, read in the end's part
-pub in_end : (f : Field) (s : List ℕ) (o : ℕ) → f.at + f.bytes ≤ 18 → le_at f.bytes (take (o + 18 - o) (drop o s)) f.at ≡ get f s o
+in_end : (f : Field) (s : List ℕ) (o : ℕ) → f.at + f.bytes ≤ 18 → le_at f.bytes (take (o + 18 - o) (drop o s)) f.at ≡ get f s o
 in_end f s o h = le_part f.bytes (o + 18 - o) s o f.at (omega arith)
+
+module _ (s : List ℕ) (o : ℕ) where
+  pub length_in : le_at 2 (take (o + 18 - o) (drop o s)) 0 ≡ length_at s o
+  length_in = in_end ending.whole_length s o (omega arith)
+
+  pub low_in : le_at 8 (take (o + 18 - o) (drop o s)) 2 ≡ (guid_at s o).low
+  low_in = in_end ending.low s o (omega arith)
+
+  pub high_in : le_at 8 (take (o + 18 - o) (drop o s)) 10 ≡ (guid_at s o).high
+  high_in = in_end ending.high s o (omega arith)
 
 -- the places of an end's fields, and where one ends the next begins
 module _ (s : List ℕ) (o : ℕ) where

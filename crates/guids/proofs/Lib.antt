@@ -3,3 +3,5 @@ pub mod Told
 pub mod Found
 pub mod Here
 pub mod Laid
+pub mod Part
+pub mod Lookup

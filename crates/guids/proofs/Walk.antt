@@ -245,10 +245,6 @@ good_table s t h =
       at = λ k h. (c k (rw n h)).1;
     }
 
--- what a refused table refuses besides
-pub table_refused : {B : Type 0} (s : List ℕ) (next : List GuidEntry → Reply B) (w : ℕ) (c : Carried) → table_of s ≡ refused w c → refused w c ≡ then (entries_of s) next
-table_refused s next w c h = refused_too (entries_of s) (λ es. record { total = total_at s; entries = length es }) next w c h
-
 module _ (s : List ℕ) (t : Totals) (good : Good s t) where
   -- what follows the check of a good table works on its entries
   pub table_given : {B : Type 0} (next : List GuidEntry → Reply B) → next (list_of s) ≡ then (entries_of s) next
@@ -264,8 +260,8 @@ module _ (s : List ℕ) (t : Totals) (good : Good s t) where
   pub entry_is : (k e : ℕ) (x : GuidEntry) → k < t.entries → e ≡ end_of s k → x ≡ entry_before s e (length_at s (e - 18)) → x ≡ get_or (list_of s) k no_entry
   entry_is k e x h q p = p ∙ ap (λ (j : ℕ). entry_before s j (length_at s (j - 18))) q ∙ sym (good.at k h)
 
-  pub next_end : (k : ℕ) (x : GuidEntry) → x ≡ get_or (list_of s) k no_entry → x.place ≡ end_of s (k + 1)
-  next_end k x is = ap (λ (y : GuidEntry). y.place) is ∙ sym (end_next (footer_at s) (list_of s) k)
+  pub next_end : (k e : ℕ) (x : GuidEntry) → k < t.entries → e ≡ end_of s k → x ≡ entry_before s e (length_at s (e - 18)) → x.place ≡ end_of s (k + 1)
+  next_end k e x h q p = ap (λ (y : GuidEntry). y.place) (entry_is k e x h q p) ∙ sym (end_next (footer_at s) (list_of s) k)
 
   pub standing_at : (k e : ℕ) → k < t.entries → e ≡ end_of s k → Standing s e
   standing_at k e h q = subst (Standing s) (sym q) (good.standing k h)

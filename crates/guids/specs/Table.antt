@@ -1,8 +1,8 @@
 -- The GUID table at the end of a guest firmware image, in document 01's words and order; s is the image and `length s` its L. Assumes nothing: these are definitions.
-use Rattle.std.specs.Prelude.{ℕ, zero, suc, ◌+◌, ◌-◌, List, [], ◌∷◌, ◌++◌, Bool, cond, ◌&&◌, length, get_or, leb, ltb, eqb}
+use Rattle.std.specs.Prelude.{ℕ, zero, suc, ◌+◌, ◌-◌, List, [], ◌∷◌, ◌++◌, Bool, cond, ◌&&◌, length, get_or, take, drop, leb, ltb, eqb}
 use Rattle.le.specs.Le.{le_at, Number, bytes_of}
 use Rattle.le.specs.Field.{get, filled}
-use Rattle.reply.specs.Reply.{Reply, given, refused, alone, tested, guard, then}
+use Rattle.reply.specs.Reply.{Reply, given, refused, tested, guard, then}
 use Rattle.reply.specs.Scan.{scan}
 use Rattle.guids.specs.Ending as ending
 use Rattle.guids.specs.Ending.{end_length, behind_table, shortest}
@@ -10,14 +10,6 @@ use Rattle.guids.specs.declared.Guid.{Guid}
 use Rattle.guids.specs.declared.GuidEntry.{GuidEntry}
 use Rattle.guids.specs.declared.Totals.{Totals}
 use Rattle.guids.specs.declared.GuidMatch.{GuidMatch}
-use Rattle.guids.specs.declared.LengthAnswer.{LengthAnswer}
-use Rattle.guids.specs.declared.LengthAnswer.TheVariants as length_answer
-use Rattle.guids.specs.declared.TotalsAnswer.{TotalsAnswer}
-use Rattle.guids.specs.declared.TotalsAnswer.TheVariants as totals_answer
-use Rattle.guids.specs.declared.GuidEntryAnswer.{GuidEntryAnswer}
-use Rattle.guids.specs.declared.GuidEntryAnswer.TheVariants as guid_entry_answer
-use Rattle.guids.specs.declared.GuidMatchAnswer.{GuidMatchAnswer}
-use Rattle.guids.specs.declared.GuidMatchAnswer.TheVariants as guid_match_answer
 
 abbrev pub same_guid : Guid → Guid → Bool
 same_guid g h = eqb g.low h.low && eqb g.high h.high
@@ -92,6 +84,10 @@ entries_before s end left = entries_in left s end left
 abbrev pub entries_under : (s : List ℕ) → (total : ℕ) → Reply (List GuidEntry)
 entries_under s total = entries_before s (footer_at s) (total - end_length)
 
+-- where their bytes lie
+abbrev pub entries_part : (s : List ℕ) → (total : ℕ) → List ℕ
+entries_part s total = take (total - end_length) (drop (length s - behind_table - total) s)
+
 -- the entries of the table, all checks made
 abbrev pub entries_of : (s : List ℕ) → Reply (List GuidEntry)
 entries_of s = then (header_of s) (entries_under s)
@@ -133,21 +129,3 @@ pick_in i entries = guard (ltb i (length entries)) 8 (given (get_or entries i no
 
 abbrev pub entry_of : (s : List ℕ) → (i : ℕ) → Reply GuidEntry
 entry_of s i = then (entries_of s) (pick_in i)
-
--- what each answer tells
-abbrev pub told_length : LengthAnswer → Reply ℕ
-told_length (length_answer.Given n) = given n
-told_length (length_answer.Refused why) = refused why.number alone
-
-abbrev pub told_totals : TotalsAnswer → Reply Totals
-told_totals (totals_answer.Given t) = given t
-told_totals (totals_answer.Refused why) = refused why.number alone
-
-abbrev pub told_guid_entry : GuidEntryAnswer → Reply GuidEntry
-told_guid_entry (guid_entry_answer.Given e) = given e
-told_guid_entry (guid_entry_answer.Refused why) = refused why.number alone
-
-abbrev pub told_guid_match : GuidMatchAnswer → Reply GuidMatch
-told_guid_match (guid_match_answer.Given m) = given m
-told_guid_match (guid_match_answer.Absent n) = refused 8 (tested n)
-told_guid_match (guid_match_answer.Refused why) = refused why.number alone

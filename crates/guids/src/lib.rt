@@ -2,14 +2,14 @@
 #![tactic(auto)]
 
 ghost use Rattle.std.specs.Prelude.{◌≡◌, ◌+◌, ◌-◌, ◌^◌, ◌<◌, ◌≤◌, length};
-ghost use Rattle.reply.specs.Reply.{given, then};
+ghost use Rattle.reply.specs.Reply.{given, then, told_alone, told_search_alone};
 ghost use Rattle.guids.specs.Ending.{end_length};
-ghost use Rattle.guids.specs.Table.{length_at, guid_at, same_guid, footer, header_of, length_before, entry_before, entries_before, entries_under, totals_of, table_of, find_in, find_of, entry_of, told_length, told_totals, told_guid_match, told_guid_entry};
+ghost use Rattle.guids.specs.Table.{length_at, guid_at, footer, header_of, length_before, entry_before, entries_before, entries_under, entries_part, totals_of, table_of, find_in, find_of, entry_of};
 
-use reply::Refusal;
+use reply::{Missed, Refusal};
 
 // A GUID: its sixteen bytes in memory are those of `low`, then those of `high`, lowest first.
-#[derive(Clone, Copy)]
+#[derive(Clone, Copy, Debug, PartialEq, Eq)]
 pub struct Guid {
     pub low: u64,
     pub high: u64,
@@ -24,7 +24,7 @@ impl Guid {
 }
 
 // An entry: its GUID, and where in the image its data begins and how many bytes it has.
-#[derive(Clone, Copy)]
+#[derive(Clone, Copy, Debug, PartialEq, Eq)]
 pub struct GuidEntry {
     pub guid: Guid,
     pub place: usize,
@@ -43,7 +43,7 @@ impl GuidEntry {
 }
 
 // A table's total, in bytes, and the number of its entries.
-#[derive(Clone, Copy)]
+#[derive(Clone, Copy, Debug, PartialEq, Eq)]
 pub struct Totals {
     pub total: u32,
     pub entries: u32,
@@ -61,43 +61,15 @@ impl Totals {
 }
 
 // A lookup's match: its data's place and length, and the number of entries tested.
-#[derive(Clone, Copy)]
+#[derive(Clone, Copy, Debug, PartialEq, Eq)]
 pub struct GuidMatch {
     pub place: usize,
     pub length: usize,
     pub tested: u32,
 }
 
-// A length, or why there is none: a table's total, as read or as a start or an extend leaves it, an entry's, or that of a list of entries.
-#[derive(Clone, Copy)]
-pub enum LengthAnswer {
-    Given(u32),
-    Refused(Refusal),
-}
-
-// What a check of a table answers.
-#[derive(Clone, Copy)]
-pub enum TotalsAnswer {
-    Given(Totals),
-    Refused(Refusal),
-}
-
-// What the entry at a position is, or why there is none.
-#[derive(Clone, Copy)]
-pub enum GuidEntryAnswer {
-    Given(GuidEntry),
-    Refused(Refusal),
-}
-
-// What a lookup answers: the match, no such entry among so many tested, or why the table is refused.
-#[derive(Clone, Copy)]
-pub enum GuidMatchAnswer {
-    Given(GuidMatch),
-    Absent(u32),
-    Refused(Refusal),
-}
-
 // The GUID of an end that begins at a place.
+#[tactic(auto, using(crate::proofs::Here::low_in, crate::proofs::Here::high_in))]
 fn guid_at(image: &[u8], at: usize) -> Guid
     requires { at + end_length ≤ length image.now }
     ensures { result ≡ guid_at image.now at }
@@ -109,20 +81,8 @@ fn guid_at(image: &[u8], at: usize) -> Guid
     }
 }
 
-// Is the GUID of an end this one? Most differ in the low half, so the high half is read only where the low ones are the same.
-fn has_guid(image: &[u8], at: usize, guid: Guid) -> bool
-    requires { at + end_length ≤ length image.now }
-    ensures { result ≡ same_guid (guid_at image.now at) guid }
-{
-    let end = &image[at..at + GuidEntry::END];
-    if le::u64_at(end, GuidEntry::LOW) == guid.low {
-        le::u64_at(end, GuidEntry::HIGH) == guid.high
-    } else {
-        false
-    }
-}
-
 // The length of an end that begins at a place.
+#[tactic(auto, using(crate::proofs::Here::length_in))]
 fn length_at(image: &[u8], at: usize) -> u16
     requires { at + end_length ≤ length image.now }
     ensures { result ≡ length_at image.now at }
@@ -131,92 +91,76 @@ fn length_at(image: &[u8], at: usize) -> u16
 }
 
 // The checks before the entries: the table's total.
-fn header(image: &[u8]) -> LengthAnswer
-    ensures { told_length result ≡ header_of image.now }
+#[tactic(auto, using(crate::proofs::Walk::footer_is, std::proofs::lemmas::Bool::Decides::nat_tests), unfolding(crate::specs::Table::header_of))]
+fn header(image: &[u8]) -> Result<u16, Refusal>
+    ensures { told_alone result ≡ header_of image.now }
 {
     if image.len() < Totals::SHORTEST {
-        return LengthAnswer::Refused(Refusal::SHORT);
+        return Err(Refusal::Short);
     }
     let at = image.len() - Totals::SHORTEST;
-    if has_guid(image, at, Guid::FOOTER) {
-        let total = length_at(image, at) as usize;
-        if total < GuidEntry::END {
-            return LengthAnswer::Refused(Refusal::LIMITS);
-        }
-        if image.len() - Totals::BEHIND < total {
-            return LengthAnswer::Refused(Refusal::LIMITS);
-        }
-        LengthAnswer::Given(total as u32)
-    } else {
-        LengthAnswer::Refused(Refusal::SIGNATURE)
+    if guid_at(image, at) != Guid::FOOTER {
+        return Err(Refusal::Signature);
     }
+    let total = length_at(image, at);
+    if !(GuidEntry::END..=image.len() - Totals::BEHIND).contains(&usize::from(total)) {
+        return Err(Refusal::Limits);
+    }
+    Ok(total)
 }
 
-// The length of the entry that ends at a place, where `left` bytes are left.
-fn length_before(image: &[u8], end: usize, left: usize) -> LengthAnswer
-    requires { (left ≤ end) × (end ≤ length image.now) }
-    ensures { told_length result ≡ length_before image.now end left }
+// The length of the entry that ends at this place of a table's entries.
+#[tactic(auto, using(std::proofs::lemmas::Bool::Decides::nat_tests), unfolding(crate::specs::Table::length_before))]
+fn length_before(entries: &[u8], end: usize) -> Result<usize, Refusal>
+    requires { end ≤ length entries.now }
+    ensures { told_alone result ≡ length_before entries.now end end }
 {
-    if left < GuidEntry::END {
-        return LengthAnswer::Refused(Refusal::STRUCTURE);
+    if end < GuidEntry::END {
+        return Err(Refusal::Structure);
     }
-    let length = length_at(image, end - GuidEntry::END) as usize;
-    if length < GuidEntry::END {
-        return LengthAnswer::Refused(Refusal::STRUCTURE);
+    let length = usize::from(length_at(entries, end - GuidEntry::END));
+    if !(GuidEntry::END..=end).contains(&length) {
+        return Err(Refusal::Structure);
     }
-    if left < length {
-        return LengthAnswer::Refused(Refusal::STRUCTURE);
-    }
-    LengthAnswer::Given(length as u32)
+    Ok(length)
 }
 
-// Checks and counts the entries of so many bytes that end at a place, backwards.
-fn counted(image: &[u8], from: usize, bytes: usize) -> LengthAnswer
-    requires { (bytes ≤ from) × (from ≤ length image.now) × (bytes < 2 ^ 32) }
-    ensures { told_length result ≡ then (entries_before image.now from bytes) (λ entries. given (length entries)) }
+// Checks and counts the entries that these bytes are, backwards. Each entry tells where it begins or is refused: an iterator would give a Result for each, and be stopped by hand at the first
+// that is refused, so a plain loop is no longer.
+#[tactic(auto, using(crate::proofs::Walk::length_facts))]
+fn counted(entries: &[u8]) -> Result<u32, Refusal>
+    requires { length entries.now < 2 ^ 32 }
+    ensures { told_alone result ≡ then (entries_before entries.now (length entries.now) (length entries.now)) (λ es. given (length es)) }
 {
-    let mut end = from;
-    let mut left = bytes;
+    let mut end = entries.len();
     let mut count: u32 = 0;
-    while 0 < left {
-        match length_before(image, end, left) {
-            LengthAnswer::Given(length) => {
-                end -= length as usize;
-                left -= length as usize;
-                count += 1;
-            }
-            LengthAnswer::Refused(why) => return LengthAnswer::Refused(why),
-        }
+    while 0 < end {
+        end -= length_before(entries, end)?;
+        count += 1;
     }
-    LengthAnswer::Given(count)
+    Ok(count)
 }
 
-// The totals of a table of this total, its entries checked.
-fn totals_under(image: &[u8], total: u32) -> TotalsAnswer
+// The bytes of the entries of a table of this total.
+#[tactic(auto, using(crate::proofs::Walk::header_facts))]
+fn entries_part(image: &[u8], total: u16) -> &[u8]
     requires { header_of image.now ≡ given total }
-    ensures { told_totals result ≡ then (entries_under image.now total) (totals_of image.now) }
+    ensures { result.now ≡ entries_part image.now total }
 {
-    match counted(
-        image,
-        image.len() - Totals::SHORTEST,
-        (total as usize) - GuidEntry::END,
-    ) {
-        LengthAnswer::Given(entries) => TotalsAnswer::Given(Totals {
-            total: total,
-            entries: entries,
-        }),
-        LengthAnswer::Refused(why) => TotalsAnswer::Refused(why),
-    }
+    &image[image.len() - Totals::BEHIND - usize::from(total)..image.len() - Totals::SHORTEST]
 }
 
 // Checks a table: its total, and the number of its entries.
-pub fn table(image: &[u8]) -> TotalsAnswer
-    ensures { told_totals result ≡ table_of image.now }
+#[tactic(auto, using(crate::proofs::Walk::header_facts))]
+pub fn table(image: &[u8]) -> Result<Totals, Refusal>
+    ensures { told_alone result ≡ table_of image.now }
 {
-    match header(image) {
-        LengthAnswer::Given(total) => totals_under(image, total),
-        LengthAnswer::Refused(why) => TotalsAnswer::Refused(why),
-    }
+    let total = header(image)?;
+    let entries = counted(entries_part(image, total))?;
+    Ok(Totals {
+        total: u32::from(total),
+        entries,
+    })
 }
 
 // The entry that ends at a place of a checked table.
@@ -225,7 +169,7 @@ fn entry_before(image: &[u8], end: usize) -> GuidEntry
     ensures { result ≡ entry_before image.now end (length_at image.now (end - end_length)) }
 {
     let at = end - GuidEntry::END;
-    let length = length_at(image, at) as usize;
+    let length = usize::from(length_at(image, at));
     GuidEntry {
         guid: guid_at(image, at),
         place: end - length,
@@ -233,81 +177,61 @@ fn entry_before(image: &[u8], end: usize) -> GuidEntry
     }
 }
 
-// A match, where the entries of the `left` bytes before its data are good: one that is not refuses the whole table.
-fn checked_match(image: &[u8], found: GuidMatch, left: usize) -> GuidMatchAnswer
-    requires { (left ≤ found.place) × (found.place ≤ length image.now) × (left < 2 ^ 32) }
-    ensures { told_guid_match result ≡ then (entries_before image.now found.place left) (λ _. given found) }
-{
-    match counted(image, found.place, left) {
-        LengthAnswer::Given(_) => GuidMatchAnswer::Given(found),
-        LengthAnswer::Refused(why) => GuidMatchAnswer::Refused(why),
-    }
-}
-
-// Looks a GUID up in a table of this total. Each entry is checked as it is tested, so that the table is walked once.
-fn find_under(image: &[u8], total: u32, guid: Guid) -> GuidMatchAnswer
+// Looks a GUID up in a table of this total. Each entry is checked as it is tested, so that the table is walked once; where one matches, those
+// behind it are checked too, since one that is not good refuses the whole table.
+#[tactic(auto, using(crate::proofs::Walk::header_facts, crate::proofs::Walk::length_facts, crate::proofs::Part::part_long, crate::proofs::Part::part_lies, crate::proofs::Lookup::find_begin, crate::proofs::Lookup::find_none, crate::proofs::Lookup::find_stop, crate::proofs::Lookup::find_pass, crate::proofs::Lookup::find_hit, crate::proofs::Lookup::find_bad))]
+fn find_under(image: &[u8], total: u16, guid: Guid) -> Result<GuidMatch, Missed<Refusal>>
     requires { header_of image.now ≡ given total }
-    ensures { told_guid_match result ≡ then (entries_under image.now total) (find_in guid) }
+    ensures { told_search_alone result ≡ then (entries_under image.now total) (find_in guid) }
 {
-    let mut end = image.len() - Totals::SHORTEST;
-    let mut left = (total as usize) - GuidEntry::END;
+    let begin = image.len() - Totals::BEHIND - usize::from(total);
+    let entries = entries_part(image, total);
+    let mut end = entries.len();
     let mut before: u32 = 0;
-    while 0 < left {
-        match length_before(image, end, left) {
-            LengthAnswer::Given(size) => {
-                let length = size as usize;
-                if has_guid(image, end - GuidEntry::END, guid) {
-                    let found = GuidMatch {
-                        place: end - length,
-                        length: length - GuidEntry::END,
-                        tested: before + 1,
-                    };
-                    return checked_match(image, found, left - length);
-                }
-                end -= length;
-                left -= length;
-                before += 1;
-            }
-            LengthAnswer::Refused(why) => return GuidMatchAnswer::Refused(why),
+    // No `for`, as in `counted`.
+    while 0 < end {
+        let length = length_before(entries, end).map_err(Missed::Refused)?;
+        if guid_at(entries, end - GuidEntry::END) == guid {
+            counted(&entries[..end - length]).map_err(Missed::Refused)?;
+            return Ok(GuidMatch {
+                place: begin + end - length,
+                length: length - GuidEntry::END,
+                tested: before + 1,
+            });
         }
+        end -= length;
+        before += 1;
     }
-    GuidMatchAnswer::Absent(before)
+    Err(Missed::Absent(before))
 }
 
 // Looks a GUID up, nearest the footer first: its data's place and length, and the number of entries tested.
-pub fn find(image: &[u8], guid: Guid) -> GuidMatchAnswer
-    ensures { told_guid_match result ≡ find_of image.now guid }
+pub fn find(image: &[u8], guid: Guid) -> Result<GuidMatch, Missed<Refusal>>
+    ensures { told_search_alone result ≡ find_of image.now guid }
 {
-    match header(image) {
-        LengthAnswer::Given(total) => find_under(image, total, guid),
-        LengthAnswer::Refused(why) => GuidMatchAnswer::Refused(why),
-    }
+    let total = header(image).map_err(Missed::Refused)?;
+    find_under(image, total, guid)
 }
 
 // Entry i of a checked table, counted from the footer.
-fn entry_in(image: &[u8], t: Totals, i: usize) -> GuidEntryAnswer
+#[tactic(auto, using(crate::proofs::Walk::good_table, crate::proofs::Walk::pick_none, crate::proofs::Walk::pick_some, crate::proofs::Walk::standing_at, crate::proofs::Walk::next_end, crate::proofs::Walk::entry_is))]
+fn entry_in(image: &[u8], t: Totals, i: usize) -> Result<GuidEntry, Refusal>
     requires { table_of image.now ≡ given t }
-    ensures { told_guid_entry result ≡ entry_of image.now i }
+    ensures { told_alone result ≡ entry_of image.now i }
 {
     if t.entries as usize <= i {
-        return GuidEntryAnswer::Refused(Refusal::ABSENT);
+        return Err(Refusal::Absent);
     }
     let mut end = image.len() - Totals::SHORTEST;
-    let mut before: usize = 0;
-    while before < i {
-        let entry = entry_before(image, end);
-        end = entry.place;
-        before += 1;
+    for _ in 0..i {
+        end = entry_before(image, end).place;
     }
-    GuidEntryAnswer::Given(entry_before(image, end))
+    Ok(entry_before(image, end))
 }
 
 // Entry i, counted from the footer.
-pub fn entry(image: &[u8], i: usize) -> GuidEntryAnswer
-    ensures { told_guid_entry result ≡ entry_of image.now i }
+pub fn entry(image: &[u8], i: usize) -> Result<GuidEntry, Refusal>
+    ensures { told_alone result ≡ entry_of image.now i }
 {
-    match table(image) {
-        TotalsAnswer::Given(t) => entry_in(image, t, i),
-        TotalsAnswer::Refused(why) => GuidEntryAnswer::Refused(why),
-    }
+    entry_in(image, table(image)?, i)
 }

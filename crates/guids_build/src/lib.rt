@@ -2,16 +2,17 @@
 #![tactic(auto)]
 
 ghost use Rattle.std.specs.Prelude.{◌≡◌, ◌+◌, ◌≤◌, length};
-ghost use Rattle.reply.specs.Reply.{given};
+ghost use Rattle.reply.specs.Reply.{given, told_alone};
 ghost use Rattle.le.specs.Le.{put_bytes};
 ghost use Rattle.guids.specs.Ending.{end_length, behind_table};
-ghost use Rattle.guids.specs.Table.{end_bytes, told_length};
+ghost use Rattle.guids.specs.Table.{end_bytes};
 ghost use Rattle.guids_build.specs.Write.{start_of, started_by, all_zero, room_for, extend_of, extended_by};
 
-use guids::{Guid, GuidEntry, LengthAnswer, Totals, TotalsAnswer};
+use guids::{Guid, GuidEntry, Totals};
 use reply::Refusal;
 
 // Writes what the table and each entry end with: a length in two bytes, and a GUID.
+#[tactic(auto, using(crate::proofs::Writing::put_end_lem))]
 fn put_end(buf: &mut [u8], at: usize, n: u16, guid: Guid)
     requires { at + end_length ≤ length buf.old }
     ensures { buf.new ≡ put_bytes (end_bytes n guid) buf.old at }
@@ -22,62 +23,52 @@ fn put_end(buf: &mut [u8], at: usize, n: u16, guid: Guid)
 }
 
 // Starts a table with no entries: the footer and the total, 18, are written and nothing else.
-pub fn start(buf: &mut [u8]) -> LengthAnswer
-    ensures result_value { told_length result ≡ start_of buf.old }
+#[tactic(auto, using(crate::proofs::Writing::start_none, crate::proofs::Writing::start_some, guids::proofs::Walk::footer_is))]
+pub fn start(buf: &mut [u8]) -> Result<u32, Refusal>
+    ensures result_value { told_alone result ≡ start_of buf.old }
     ensures buf_after { buf.new ≡ started_by buf.old (start_of buf.old) }
 {
     if buf.len() < Totals::SHORTEST {
-        return LengthAnswer::Refused(Refusal::ROOM);
+        return Err(Refusal::Room);
     }
     let at = buf.len() - Totals::SHORTEST;
     put_end(buf, at, GuidEntry::END as u16, Guid::FOOTER);
-    LengthAnswer::Given(GuidEntry::END as u32)
+    Ok(GuidEntry::END as u32)
 }
 
 // Are all bytes zero?
 fn all_zero(bytes: &[u8]) -> bool
     ensures { result ≡ all_zero bytes.now }
 {
-    let mut i: usize = 0;
-    while i < bytes.len() {
-        if bytes[i] != 0 {
-            return false;
-        }
-        i += 1;
-    }
-    true
+    bytes.iter().all(|byte| *byte == 0)
 }
 
 // Has a good table room for an entry of `more` bytes that brings it to this total?
-fn room_for(buf: &[u8], more: usize, total: usize) -> LengthAnswer
+#[tactic(auto, using(std::proofs::lemmas::Bool::Decides::nat_tests), unfolding(crate::specs::Write::room_for))]
+fn room_for(buf: &[u8], more: usize, total: usize) -> Result<u32, Refusal>
     requires { (more ≤ total) × (behind_table ≤ length buf.now) }
-    ensures { told_length result ≡ room_for buf.now more total }
+    ensures { told_alone result ≡ room_for buf.now more total }
 {
     if Totals::LARGEST < total {
-        return LengthAnswer::Refused(Refusal::LIMITS);
+        return Err(Refusal::Limits);
     }
     if buf.len() - Totals::BEHIND < total {
-        return LengthAnswer::Refused(Refusal::ROOM);
+        return Err(Refusal::Room);
     }
     let from = buf.len() - Totals::BEHIND - total;
-    if all_zero(&buf[from..from + more]) {
-        LengthAnswer::Given(total as u32)
-    } else {
-        LengthAnswer::Refused(Refusal::WRITTEN)
+    if !all_zero(&buf[from..from + more]) {
+        return Err(Refusal::Written);
     }
+    Ok(total as u32)
 }
 
 // What an extend with these data bytes answers, and nothing is written: the new total.
-pub fn admit(buf: &[u8], bytes: &[u8]) -> LengthAnswer
-    ensures { told_length result ≡ extend_of buf.now bytes.now }
+#[tactic(auto, using(guids::proofs::Walk::good_table))]
+pub fn admit(buf: &[u8], bytes: &[u8]) -> Result<u32, Refusal>
+    ensures { told_alone result ≡ extend_of buf.now bytes.now }
 {
-    match guids::table(buf) {
-        TotalsAnswer::Given(t) => {
-            let more = bytes.len() + GuidEntry::END;
-            room_for(buf, more, t.total as usize + more)
-        }
-        TotalsAnswer::Refused(why) => LengthAnswer::Refused(why),
-    }
+    let more = bytes.len() + GuidEntry::END;
+    room_for(buf, more, guids::table(buf)?.total as usize + more)
 }
 
 // Writes the new total, and the entry at the table's far end.
@@ -94,15 +85,11 @@ fn append(buf: &mut [u8], total: u32, guid: Guid, bytes: &[u8])
 }
 
 // Extends a table by an entry with this GUID and these data bytes, farthest from the footer: the new total.
-pub fn extend(buf: &mut [u8], guid: Guid, bytes: &[u8]) -> LengthAnswer
-    ensures result_value { told_length result ≡ extend_of buf.old bytes.now }
+pub fn extend(buf: &mut [u8], guid: Guid, bytes: &[u8]) -> Result<u32, Refusal>
+    ensures result_value { told_alone result ≡ extend_of buf.old bytes.now }
     ensures buf_after { buf.new ≡ extended_by buf.old guid bytes.now (extend_of buf.old bytes.now) }
 {
-    match admit(buf, bytes) {
-        LengthAnswer::Given(total) => {
-            append(buf, total, guid, bytes);
-            LengthAnswer::Given(total)
-        }
-        LengthAnswer::Refused(why) => LengthAnswer::Refused(why),
-    }
+    let total = admit(buf, bytes)?;
+    append(buf, total, guid, bytes);
+    Ok(total)
 }

@@ -8,7 +8,6 @@ use borrow.Author.Tests.{eqb-true}
 use lib.ListN.{length, take, drop, length-append}
 use lib.Seq.{drop-append-add}
 use Rattle.le.specs.Le.{le_at}
-use Rattle.le.specs.Field.{get}
 use lib.Dec.{ltb, eqb}
 use Rattle.reply.specs.Reply.{Reply, given, refused, alone, in_entry, guard, then, met}
 use Rattle.reply.specs.Scan.{Lowest}
@@ -31,7 +30,6 @@ use Rattle.entries.specs.declared.Part.{Part}
 use Rattle.entries.proofs.Accept.{only_entry}
 use Rattle.entries.proofs.Lowest.{lowest_lead}
 use Rattle.entries.proofs.PartAccept.{two_bits, lead_fact, lead_given, parts_accepted}
-use Rattle.efs.specs.Fields as efs
 use Rattle.efs.specs.Rules.{rules_of}
 use Rattle.efs.specs.Good.{EfsAt, PointsTo}
 use Rattle.efs.specs.Good as pointer
@@ -46,7 +44,7 @@ use Rattle.walk.specs.declared.ImageMatch.{ImageMatch}
 use Rattle.build_again.specs.Again.{from_start, told_from_start}
 use Rattle.build_again.proofs.Moved.{le_drop, directory_same, entry_same}
 use Rattle.image_lengths.specs.Told.{candidate}
-use Rattle.image_lengths.specs.EndsAlike.{moved, moved_efs, moved_pointer, moved_directory, moved_part, moved_match, moved_answer, NoOffset, FromTheEnd, AllFromTheEnd, EndsAlike, ImagesEndAlike}
+use Rattle.image_lengths.specs.EndsAlike.{moved, moved_efs, moved_pointer, moved_directory, moved_part, moved_match, moved_answer, NoOffset, FromTheEnd, AllFromTheEnd, ImagesEndAlike}
 use Rattle.image_lengths.proofs.Told.{fits, whole, told_physical}
 
 -- of two candidates the later is the lower

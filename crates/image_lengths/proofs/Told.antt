@@ -1,6 +1,6 @@
 -- What the length of an image decides. Assumes nothing.
 use mathlib.Core.Path.{◌≡◌, refl, sym, ap, subst, ◌∙◌}
-use mathlib.Core.Logic.{◌⊎◌, inl, inr}
+use mathlib.Core.Logic.{inl, inr}
 use mathlib.Core.List.{List}
 use mathlib.Core.Bool.{Bool, true, false}
 use Prim.Native.Nat.{ℕ, zero, suc, ◌+◌, ◌-◌, ◌<◌, ◌≤◌}
@@ -21,7 +21,6 @@ use Rattle.directory.specs.declared.Kind.{Kind}
 use Rattle.directory.specs.declared.Directory.{Directory}
 use Rattle.entries.specs.Part.{leads_to, part_of}
 use Rattle.entries.specs.declared.Entry.{Entry}
-use Rattle.entries.specs.declared.Part.{Part}
 use Rattle.entries.proofs.PartAccept.{parts_accepted}
 use Rattle.efs.specs.Fields as efs
 use Rattle.efs.specs.Rules.{rules_of}
@@ -31,7 +30,7 @@ use Rattle.efs.proofs.Accept.{only_efs}
 use Rattle.flash.specs.Good.{FlashAcceptance}
 use Rattle.flash.proofs.Accept.{levels_accepted}
 use Rattle.flash.proofs.Ways.{opened}
-use Rattle.image_lengths.specs.Told.{Outside, PhysicalPointer, OffsetPointer, shortest, AddressesTold, LengthTold, candidate, CandidatesTold, AcceptedByLength, LengthsTold}
+use Rattle.image_lengths.specs.Told.{Outside, PhysicalPointer, OffsetPointer, shortest, candidate, LengthsTold}
 
 -- an address outside the window of so many bytes
 outside : (long a : ℕ) → Outside long a → offset_in long a ≡ refused 7 alone

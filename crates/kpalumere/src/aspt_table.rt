@@ -12,7 +12,7 @@ pub extern "C" fn kpalumere_aspt_read(bytes: &[u8], words: &mut [u64]) -> u64
     ensures value { result ≡ number_left lay_table (read_of bytes.now) words.old }
     ensures words_after { words.new ≡ words_left lay_table (read_of bytes.now) words.old }
 {
-    aspt_words::read(bytes, words)
+    lent::number(aspt_words::read(bytes, words))
 }
 
 // Writes the table in the lent words into the buffer: fewer than twenty-two words are 1, a word that its field cannot hold is 5.
@@ -21,5 +21,5 @@ pub extern "C" fn kpalumere_aspt_write(buf: &mut [u8], words: &[u64]) -> u64
     ensures value { result ≡ number_of (write_words words.now buf.old) }
     ensures buf_after { buf.new ≡ written_by (table_from words.now) buf.old (write_words words.now buf.old) }
 {
-    aspt_words::write(buf, words)
+    lent::number(aspt_words::write(buf, words))
 }

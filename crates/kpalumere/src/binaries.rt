@@ -12,7 +12,7 @@ pub extern "C" fn kpalumere_version(bytes: &[u8], words: &mut [u64]) -> u64
     ensures value { result ≡ number_left lay_number (version_of bytes.now) words.old }
     ensures words_after { words.new ≡ words_left lay_number (version_of bytes.now) words.old }
 {
-    binary_words::version(bytes, words)
+    lent::number(binary_words::version(bytes, words))
 }
 
 // One word: the version of the firmware binary that the bytes of an entry of the directory of a level are. A refusal that was met in a header or an entry leaves
@@ -27,5 +27,5 @@ pub extern "C" fn kpalumere_entry_version(
     ensures value { result ≡ number_left lay_number (version_in image.now (flash_part (rules_of image.now) level image.now index)) words.old }
     ensures words_after { words.new ≡ words_left lay_number (version_in image.now (flash_part (rules_of image.now) level image.now index)) words.old }
 {
-    version_words::entry(image, level, index, words)
+    lent::number(version_words::entry(image, level, index, words))
 }

@@ -10,5 +10,5 @@ pub extern "C" fn kpalumere_checksum(bytes: &[u8], words: &mut [u64]) -> u64
     ensures value { result ≡ number_left lay_number (given (fletcher_of bytes.now)) words.old }
     ensures words_after { words.new ≡ words_left lay_number (given (fletcher_of bytes.now)) words.old }
 {
-    binary_words::checksum(bytes, words)
+    lent::number(binary_words::checksum(bytes, words))
 }

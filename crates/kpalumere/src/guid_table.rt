@@ -12,7 +12,7 @@ pub extern "C" fn kpalumere_guids(image: &[u8], words: &mut [u64]) -> u64
     ensures value { result ≡ number_left lay_totals (table_of image.now) words.old }
     ensures words_after { words.new ≡ words_left lay_totals (table_of image.now) words.old }
 {
-    guids_words::table(image, words)
+    lent::number(guids_words::table(image, words))
 }
 
 // Three words: the data's place and length, and the number of entries tested. 8 carries that number: one word.
@@ -21,7 +21,7 @@ pub extern "C" fn kpalumere_guid_find(image: &[u8], low: u64, high: u64, words: 
     ensures value { result ≡ number_left lay_guid_match (find_of image.now (guid_of low high)) words.old }
     ensures words_after { words.new ≡ words_left lay_guid_match (find_of image.now (guid_of low high)) words.old }
 {
-    guids_words::find(image, low, high, words)
+    lent::number(guids_words::find(image, low, high, words))
 }
 
 // Four words: the GUID's halves, and the data's place and length, of the entry at position i counted from the footer.
@@ -30,7 +30,7 @@ pub extern "C" fn kpalumere_guid_entry(image: &[u8], i: usize, words: &mut [u64]
     ensures value { result ≡ number_left lay_guid_entry (entry_of image.now i) words.old }
     ensures words_after { words.new ≡ words_left lay_guid_entry (entry_of image.now i) words.old }
 {
-    guids_words::entry(image, i, words)
+    lent::number(guids_words::entry(image, i, words))
 }
 
 // Starts a table with no entries.
@@ -39,7 +39,7 @@ pub extern "C" fn kpalumere_guid_start(buf: &mut [u8]) -> u64
     ensures value { result ≡ number_of (start_of buf.old) }
     ensures buf_after { buf.new ≡ started_by buf.old (start_of buf.old) }
 {
-    guids_words::start(buf)
+    lent::number(guids_words::start(buf))
 }
 
 // Extends the table by an entry, farthest from the footer. One word: the new total; where there is no word, no byte is written either.
@@ -55,5 +55,5 @@ pub extern "C" fn kpalumere_guid_extend(
     ensures words_after { words.new ≡ words_left lay_number (extend_of buf.old bytes.now) words.old }
     ensures buf_after { buf.new ≡ bytes_left lay_number (extend_of buf.old bytes.now) (extended_by buf.old (guid_of low high) bytes.now) buf.old words.old }
 {
-    guids_words::extend(buf, low, high, bytes, words)
+    lent::number(guids_words::extend(buf, low, high, bytes, words))
 }

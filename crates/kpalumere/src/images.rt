@@ -18,7 +18,7 @@ pub extern "C" fn kpalumere_efs(image: &[u8], words: &mut [u64]) -> u64
     ensures value { result ≡ number_left lay_efs (flash_efs (rules_of image.now) image.now) words.old }
     ensures words_after { words.new ≡ words_left lay_efs (flash_efs (rules_of image.now) image.now) words.old }
 {
-    flash_words::efs(image, words)
+    lent::number(flash_words::efs(image, words))
 }
 
 // Three words: the field of the EFS that holds the directory pointer, its value, and the place where it leads.
@@ -27,7 +27,7 @@ pub extern "C" fn kpalumere_pointer(image: &[u8], words: &mut [u64]) -> u64
     ensures value { result ≡ number_left lay_pointer (flash_pointer (rules_of image.now) image.now) words.old }
     ensures words_after { words.new ≡ words_left lay_pointer (flash_pointer (rules_of image.now) image.now) words.old }
 {
-    flash_words::pointer(image, words)
+    lent::number(flash_words::pointer(image, words))
 }
 
 // Three words: the directory's place, level and total.
@@ -36,7 +36,7 @@ pub extern "C" fn kpalumere_directory(image: &[u8], level: u32, words: &mut [u64
     ensures value { result ≡ number_left lay_directory (flash_directory (rules_of image.now) level image.now) words.old }
     ensures words_after { words.new ≡ words_left lay_directory (flash_directory (rules_of image.now) level image.now) words.old }
 {
-    flash_words::directory(image, level, words)
+    lent::number(flash_words::directory(image, level, words))
 }
 
 // How many directories the image has, then four words for each: its place, level and total, and the index of the entry of level one that led there.
@@ -45,7 +45,7 @@ pub extern "C" fn kpalumere_directories(image: &[u8], words: &mut [u64]) -> u64
     ensures value { result ≡ number_left lay_directories (flash_directories (rules_of image.now) image.now) words.old }
     ensures words_after { words.new ≡ words_left lay_directories (flash_directories (rules_of image.now) image.now) words.old }
 {
-    all_directories::directories(image, words)
+    lent::number(all_directories::directories(image, words))
 }
 
 // Four words: of a directory that is refused since an entry repeats, that entry, the earlier one, and the type and subprogram of both.
@@ -54,7 +54,7 @@ pub extern "C" fn kpalumere_repeated(image: &[u8], level: u32, words: &mut [u64]
     ensures value { result ≡ number_left lay_repeat (flash_repeats (rules_of image.now) level image.now) words.old }
     ensures words_after { words.new ≡ words_left lay_repeat (flash_repeats (rules_of image.now) level image.now) words.old }
 {
-    flash_words::repeated(image, level, words)
+    lent::number(flash_words::repeated(image, level, words))
 }
 
 // Five words: the entry's type, subprogram, size, location and mode.
@@ -63,7 +63,7 @@ pub extern "C" fn kpalumere_entry(image: &[u8], level: u32, index: u64, words: &
     ensures value { result ≡ number_left lay_entry (flash_entry (rules_of image.now) level image.now index) words.old }
     ensures words_after { words.new ≡ words_left lay_entry (flash_entry (rules_of image.now) level image.now index) words.old }
 {
-    flash_words::entry(image, level, index, words)
+    lent::number(flash_words::entry(image, level, index, words))
 }
 
 // Two words: where the entry's bytes begin in the image, and how many they are.
@@ -72,7 +72,7 @@ pub extern "C" fn kpalumere_part(image: &[u8], level: u32, index: u64, words: &m
     ensures value { result ≡ number_left lay_part (flash_part (rules_of image.now) level image.now index) words.old }
     ensures words_after { words.new ≡ words_left lay_part (flash_part (rules_of image.now) level image.now index) words.old }
 {
-    flash_words::part(image, level, index, words)
+    lent::number(flash_words::part(image, level, index, words))
 }
 
 // Two words: the match's index, and how many entries were tested; with an 8 one word, how many were tested.
@@ -87,7 +87,7 @@ pub extern "C" fn kpalumere_find(
     ensures value { result ≡ number_left lay_match (flash_find (rules_of image.now) level image.now class sub) words.old }
     ensures words_after { words.new ≡ words_left lay_match (flash_find (rules_of image.now) level image.now class sub) words.old }
 {
-    lookup_words::find(image, level, class, sub, words)
+    lent::number(lookup_words::find(image, level, class, sub, words))
 }
 
 // Four words: the place and level of the match's directory, its index, and how many entries were tested; with an 8 one word, how many were tested.
@@ -96,7 +96,7 @@ pub extern "C" fn kpalumere_find_image(image: &[u8], class: u8, sub: u8, words: 
     ensures value { result ≡ number_left lay_image_match (find_image (rules_of image.now) image.now class sub) words.old }
     ensures words_after { words.new ≡ words_left lay_image_match (find_image (rules_of image.now) image.now class sub) words.old }
 {
-    lookup_words::find_image(image, class, sub, words)
+    lent::number(lookup_words::find_image(image, class, sub, words))
 }
 
 // Five words of what is wrong at a place that a refusal carries, which is where its directory begins, its level, and of an entry its index: the number, where the
@@ -112,5 +112,5 @@ pub extern "C" fn kpalumere_wrong(
     ensures value { result ≡ number_left lay_wrong (wrong_at (rules_of image.now) image.now place level index) words.old }
     ensures words_after { words.new ≡ words_left lay_wrong (wrong_at (rules_of image.now) image.now place level index) words.old }
 {
-    wrong::wrong(image, place, level, index, words)
+    lent::number(wrong::wrong(image, place, level, index, words))
 }

@@ -9,7 +9,7 @@ pub extern "C" fn kpalumere_mailbox_fresh(words: &mut [u64]) -> u64
     ensures value { result ≡ number_for 0 fresh_words words.old }
     ensures words_after { words.new ≡ words_for fresh_words words.old }
 {
-    mailbox_words::fresh(words)
+    lent::number(mailbox_words::fresh(words))
 }
 
 // Takes a post of a caller into the line. No value.
@@ -25,7 +25,7 @@ pub extern "C" fn kpalumere_post(
     ensures words_after { words.new ≡ (post_on caller command «data» words.old values.old).words }
     ensures values_after { values.new ≡ (post_on caller command «data» words.old values.old).values }
 {
-    mailbox_words::post(words, values, caller, command, data)
+    lent::number(mailbox_words::post(words, values, caller, command, data))
 }
 
 // Moves the oldest post into an idle register. One value: 1 yes, 0 no.
@@ -35,7 +35,7 @@ pub extern "C" fn kpalumere_load(words: &mut [u64], values: &mut [u64]) -> u64
     ensures words_after { words.new ≡ (load_on words.old values.old).words }
     ensures values_after { values.new ≡ (load_on words.old values.old).values }
 {
-    mailbox_steps_words::load(words, values)
+    lent::number(mailbox_steps_words::load(words, values))
 }
 
 // Runs the command in the register, and its response is there instead. One value: 1 yes, 0 no.
@@ -45,7 +45,7 @@ pub extern "C" fn kpalumere_turn(words: &mut [u64], values: &mut [u64]) -> u64
     ensures words_after { words.new ≡ (turn_on words.old values.old).words }
     ensures values_after { values.new ≡ (turn_on words.old values.old).values }
 {
-    mailbox_turn_words::turn(words, values)
+    lent::number(mailbox_turn_words::turn(words, values))
 }
 
 // Delivers the response in the register to its caller. One value: 1 yes, 0 no.
@@ -55,7 +55,7 @@ pub extern "C" fn kpalumere_unload(words: &mut [u64], values: &mut [u64]) -> u64
     ensures words_after { words.new ≡ (unload_on words.old values.old).words }
     ensures values_after { values.new ≡ (unload_on words.old values.old).values }
 {
-    mailbox_steps_words::unload(words, values)
+    lent::number(mailbox_steps_words::unload(words, values))
 }
 
 // Gives a caller its word, and frees its place. One value: the word.
@@ -65,5 +65,5 @@ pub extern "C" fn kpalumere_take(words: &mut [u64], values: &mut [u64], caller: 
     ensures words_after { words.new ≡ (take_on caller words.old values.old).words }
     ensures values_after { values.new ≡ (take_on caller words.old values.old).values }
 {
-    mailbox_words::take(words, values, caller)
+    lent::number(mailbox_words::take(words, values, caller))
 }

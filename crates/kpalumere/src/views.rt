@@ -15,7 +15,7 @@ pub extern "C" fn kpalumere_view(image: &[u8], level: u32, words: &mut [u64]) ->
     ensures value { result ≡ number_left lay_place (flash_directory (rules_of image.now) level image.now) words.old }
     ensures words_after { words.new ≡ words_left lay_place (flash_directory (rules_of image.now) level image.now) words.old }
 {
-    view_words::view(image, level, words)
+    lent::number(view_words::view(image, level, words))
 }
 
 // Five words: type, subprogram, size, location and mode of entry i, from a view that holds the image and the place.
@@ -29,7 +29,7 @@ pub extern "C" fn kpalumere_view_entry(
     ensures value { result ≡ number_left lay_entry (entry_at (rules_of image.now) image.now place i) words.old }
     ensures words_after { words.new ≡ words_left lay_entry (entry_at (rules_of image.now) image.now place i) words.old }
 {
-    view_words::entry(image, place, i, words)
+    lent::number(view_words::entry(image, place, i, words))
 }
 
 // Two words: where the bytes of entry i begin in the image, and how many they are, from a view that holds the image and the place.
@@ -43,7 +43,7 @@ pub extern "C" fn kpalumere_view_part(
     ensures value { result ≡ number_left lay_part (part_at (rules_of image.now) image.now place i) words.old }
     ensures words_after { words.new ≡ words_left lay_part (part_at (rules_of image.now) image.now place i) words.old }
 {
-    view_words::part(image, place, i, words)
+    lent::number(view_words::part(image, place, i, words))
 }
 
 // One word: the version of the firmware binary that the bytes of entry i are, from a view that holds the image and the place.
@@ -57,7 +57,7 @@ pub extern "C" fn kpalumere_view_version(
     ensures value { result ≡ number_left lay_number (version_in image.now (part_at (rules_of image.now) image.now place i)) words.old }
     ensures words_after { words.new ≡ words_left lay_number (version_in image.now (part_at (rules_of image.now) image.now place i)) words.old }
 {
-    version_words::view(image, place, i, words)
+    lent::number(version_words::view(image, place, i, words))
 }
 
 // Three words of the directory that a view holds, which is checked once: place, level and total; then eight of each entry: type, subprogram, size, location and
@@ -67,5 +67,5 @@ pub extern "C" fn kpalumere_view_entries(image: &[u8], place: usize, words: &mut
     ensures value { result ≡ number_left (lay_entries (rules_of image.now) image.now) (check_at (rules_of image.now) image.now place) words.old }
     ensures words_after { words.new ≡ words_left (lay_entries (rules_of image.now) image.now) (check_at (rules_of image.now) image.now place) words.old }
 {
-    all_entries::view_entries(image, place, words)
+    lent::number(all_entries::view_entries(image, place, words))
 }

@@ -10,7 +10,7 @@ pub extern "C" fn kpalumere_start(buf: &mut [u8], level: u32) -> u64
     ensures value { result ≡ number_of (start_of level buf.old) }
     ensures buf_after { buf.new ≡ started_by level buf.old (start_of level buf.old) }
 {
-    build_words::start(buf, level)
+    lent::number(build_words::start(buf, level))
 }
 
 // Extends the directory by an entry. One word: the new total; where there is no word, no byte is written either. A refusal of the directory that stands there
@@ -29,5 +29,5 @@ pub extern "C" fn kpalumere_extend(
     ensures words_after { words.new ≡ words_left lay_number (extend_of (fields_for class sub size location mode) buf.old) words.old }
     ensures buf_after { buf.new ≡ bytes_left lay_number (extend_of (fields_for class sub size location mode) buf.old) (extended_by (fields_for class sub size location mode) buf.old) buf.old words.old }
 {
-    build_words::extend(buf, class, sub, size, location, mode, words)
+    lent::number(build_words::extend(buf, class, sub, size, location, mode, words))
 }

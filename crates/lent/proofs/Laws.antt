@@ -1,12 +1,17 @@
 -- The copy of a reply's values into lent words, and what an export cites of it. Assumes nothing.
-use mathlib.Core.Path.{◌≡◌, sym, ap, ◌∙◌}
+use mathlib.Core.Path.{◌≡◌, refl, sym, ap, ◌∙◌}
+use mathlib.Core.Bool.{Bool, true, false, cond}
 use mathlib.Core.List.{List, [], ◌∷◌, ◌++◌}
-use Prim.Native.Nat.{ℕ, suc, ◌+◌, ◌≤◌, ◌<◌}
+use Prim.Native.Nat.{ℕ, ◌≤◌, ◌<◌}
 use native.Mathlib.Omega.{arith}
-use lib.ListN.{length, get_or, set, take, drop}
-use lib.Seq.{drop-cons, set_at, length-take-le, append_snoc, take-suc, take-length}
+use lib.Dec.{leb}
+use lib.ListN.{length, take, drop}
+use lib.Seq.{take_all}
 use borrow.Author.Tests.{le-leb, lt-leb}
 use Rattle.reply.specs.Reply.{Reply, given, refused, alone, tested, carried_of}
+use Rattle.reply.specs.Number.{refusal_number}
+use Rattle.reply.specs.declared.Refusal.{Refusal}
+use Rattle.reply.proofs.Told.{refusal_above}
 use Rattle.reply.specs.declared.Fault.{Fault}
 use Rattle.lent.specs.Lent.{lay_carried, number_for, words_for, number_left, words_left}
 
@@ -29,26 +34,31 @@ module _ (vs ws : List ℕ) where
   unfolding words_for
   words_fits p = rw (le-leb _ _ p)
 
--- the first i values copied
-abbrev pub copied : List ℕ → List ℕ → ℕ → List ℕ
-copied vs ws i = take i vs ++ drop i ws
+-- values that fit, copied to the last
+pub words_copied : (vs ws : List ℕ) (i : ℕ) → i ≡ length vs → length vs ≤ length ws → take i vs ++ drop i ws ≡ words_for vs ws
+words_copied vs ws i e p = rw (e, take_all (length vs) vs (omega arith)) (words_fits vs ws p)
 
-module _ (vs ws now : List ℕ) (i : ℕ) (inv : now ≡ copied vs ws i) where
-  pub copy_step : i < length vs → length vs ≤ length ws → set now i (get_or vs i 0) ≡ copied vs ws (i + 1)
-  copy_step p q =
-      let one : suc i ≡ i + 1 = omega arith in
-      let v = get_or vs i 0 in
-      ap (λ (l : List ℕ). set l i v) inv
-      ∙ (ap (λ (l : List ℕ). set (take i vs ++ l) i v) (drop-cons ws i 0 (omega arith))
-      ∙ (set_at (take i vs) (get_or ws i 0) (drop (suc i) ws) v i (length-take-le i vs (omega arith))
-      ∙ (sym (append_snoc (take i vs) v (drop (suc i) ws))
-      ∙ (ap (λ (l : List ℕ). l ++ drop (suc i) ws) (sym (take-suc vs i 0 p))
-      ∙ ap (copied vs ws) one))))
+-- no values change no word
+pub words_kept : (ws : List ℕ) → ws ≡ words_for [] ws
+words_kept ws = words_fits [] ws (omega arith)
 
-  pub copy_end : i ≤ length vs → length vs ≤ i → length vs ≤ length ws → now ≡ words_for vs ws
-  copy_end p q fits =
-      let all : i ≡ length vs = omega arith in
-      inv ∙ (ap (copied vs ws) all ∙ (ap (λ (l : List ℕ). l ++ drop (length vs) ws) (take-length vs) ∙ words_fits vs ws fits))
+-- what a put answers tells whether the values fit, and so what a refusal that carries them answers
+module _ (vs ws : List ℕ) (n : ℕ) where
+  pub number_kept : ◌≡◌ {A = ℕ} 0 (number_for 0 vs ws) → n ≡ number_for n vs ws
+  unfolding number_for
+  number_kept e = by (leb (length vs) (length ws)) e
+    where
+      by : (b : Bool) → ◌≡◌ {A = ℕ} 0 (cond b 0 12) → n ≡ cond b n 12
+      by true e = refl
+      by false e = absurd (omega (arith, e))
+
+  pub number_full : (refusal : Refusal) → refusal_number refusal ≡ number_for 0 vs ws → refusal_number refusal ≡ number_for n vs ws
+  unfolding number_for
+  number_full refusal e = by (leb (length vs) (length ws)) e
+    where
+      by : (b : Bool) → refusal_number refusal ≡ cond b 0 12 → refusal_number refusal ≡ cond b n 12
+      by true e = absurd (refusal_above refusal e)
+      by false e = e
 
 -- what an export leaves, once its reply is known: what it gives, a number with a count, a fault with its place, or a number alone
 module _ {A : Type 0} (lay : A → List ℕ) (d : Reply A) (ws : List ℕ) where
@@ -64,11 +74,11 @@ module _ {A : Type 0} (lay : A → List ℕ) (d : Reply A) (ws : List ℕ) where
   pub tested_words : (n count : ℕ) (after : List ℕ) → d ≡ refused n (tested count) → after ≡ words_for (count ∷ []) ws → after ≡ words_left lay d ws
   tested_words n count after e h = h ∙ ap (λ (r : Reply A). words_left lay r ws) (sym e)
 
-  pub fault_number : (why : Fault) (k : ℕ) → d ≡ refused why.number (carried_of why.met) → k ≡ number_for why.number (lay_carried (carried_of why.met)) ws → k ≡ number_left lay d ws
-  fault_number why k e h = h ∙ ap (λ (r : Reply A). number_left lay r ws) (sym e)
+  pub fault_number : (fault : Fault) (k : ℕ) → d ≡ refused (refusal_number fault.refusal) (carried_of fault.met) → k ≡ number_for (refusal_number fault.refusal) (lay_carried (carried_of fault.met)) ws → k ≡ number_left lay d ws
+  fault_number fault k e h = h ∙ ap (λ (r : Reply A). number_left lay r ws) (sym e)
 
-  pub fault_words : (why : Fault) (after : List ℕ) → d ≡ refused why.number (carried_of why.met) → after ≡ words_for (lay_carried (carried_of why.met)) ws → after ≡ words_left lay d ws
-  fault_words why after e h = h ∙ ap (λ (r : Reply A). words_left lay r ws) (sym e)
+  pub fault_words : (fault : Fault) (after : List ℕ) → d ≡ refused (refusal_number fault.refusal) (carried_of fault.met) → after ≡ words_for (lay_carried (carried_of fault.met)) ws → after ≡ words_left lay d ws
+  fault_words fault after e h = h ∙ ap (λ (r : Reply A). words_left lay r ws) (sym e)
 
   pub alone_number : (n : ℕ) → d ≡ refused n alone → n ≡ number_left lay d ws
   alone_number n e = number_fits [] ws n (omega arith) ∙ ap (λ (r : Reply A). number_left lay r ws) (sym e)

@@ -1,11 +1,16 @@
 -- What a reply leaves at the boundary: its number, and its values in lent words; and what lent words begin with. Assumes nothing: these are definitions.
-use Rattle.std.specs.Prelude.{ℕ, List, [], ◌∷◌, ◌++◌, Bool, true, false, cond, ◌&&◌, length, drop, leb, eqb}
-use Rattle.reply.specs.Reply.{Reply, Carried, given, refused, alone, tested, in_header, in_entry}
+use Rattle.std.specs.Prelude.{ℕ, List, [], ◌∷◌, ◌++◌, Bool, true, false, cond, ◌&&◌, length, drop, leb, eqb, Result}
+use Rattle.reply.specs.declared.Refusal.{Refusal}
+use Rattle.reply.specs.Reply.{Reply, Carried, given, refused, alone, tested, in_header, in_entry, told_alone}
 
 -- a call's number: 0 where it gives
 abbrev pub number_of : {A : Type 0} → Reply A → ℕ
 number_of (given a) = 0
 number_of (refused number carried) = number
+
+-- the number of an answer whose refusals stand alone
+abbrev pub answered : {A : Type 0} → Result A Refusal → ℕ
+answered answer = number_of (told_alone answer)
 
 -- what a number carries, as words: the count; or where it was met, in a header (1) or an entry (2), with level, index (0 of a header) and directory
 abbrev pub lay_carried : Carried → List ℕ

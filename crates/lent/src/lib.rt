@@ -1,55 +1,79 @@
-// Lent words: how a call at the boundary hands its values over.
+// Lent words: how a call at the boundary hands its values over, and the number that it answers.
 #![tactic(auto)]
 
 ghost use Rattle.std.specs.Prelude.{◌≡◌};
+ghost use Rattle.reply.specs.Number.{refusal_number};
 ghost use Rattle.reply.specs.Reply.{carried_of};
-ghost use Rattle.lent.specs.Lent.{lay_carried, number_for, words_for};
+ghost use Rattle.lent.specs.Lent.{lay_carried, number_for, words_for, answered};
 
-use reply::{Fault, Met};
+use reply::{Fault, Met, Refusal};
 
 // Where a fault was met, as its first word tells it: in a header, or in an entry.
 const HEADER: u64 = 1;
 
 const ENTRY: u64 = 2;
 
-// Writes the values into the lent words, from the first on, and answers the number; 12, and nothing written, where they do not fit.
-pub fn put(words: &mut [u64], number: u64, values: &[u64]) -> u64
-    ensures value { result ≡ number_for number values.now words.old }
+// The number of an answer, as the boundary tells it: 0 where it is accepted.
+pub fn number(answer: Result<(), Refusal>) -> u64
+    ensures { result ≡ answered answer }
+{
+    match answer {
+        Ok(()) => 0,
+        Err(refusal) => u64::from(refusal.number()),
+    }
+}
+
+// Writes the values into the lent words, from the first on; no room, and nothing written, where they do not fit.
+#[tactic(auto, using(crate::proofs::Laws::number_12, crate::proofs::Laws::words_12, crate::proofs::Laws::number_fits, crate::proofs::Laws::words_fits))]
+pub fn put(words: &mut [u64], values: &[u64]) -> Result<(), Refusal>
+    ensures value { answered result ≡ number_for 0 values.now words.old }
     ensures words_after { words.new ≡ words_for values.now words.old }
 {
     if words.len() < values.len() {
-        return 12;
+        return Err(Refusal::Room);
     }
-    let mut i: usize = 0;
-    while i < values.len() {
-        words[i] = values[i];
-        i += 1;
+    for (i, value) in values.iter().enumerate() {
+        words[i] = *value;
     }
-    number
+    Ok(())
 }
 
-// Writes where a fault was met into the lent words, and answers its number; 12, and nothing written, where they do not fit.
-pub fn put_fault(words: &mut [u64], why: Fault) -> u64
-    ensures value { result ≡ number_for why.number (lay_carried (carried_of why.met)) words.old }
-    ensures words_after { words.new ≡ words_for (lay_carried (carried_of why.met)) words.old }
+// Writes the values that a refusal carries, and answers it; no room, and nothing written, where they do not fit.
+#[tactic(auto, using(crate::proofs::Laws::number_kept, crate::proofs::Laws::number_full))]
+pub fn refuse(words: &mut [u64], refusal: Refusal, values: &[u64]) -> Result<(), Refusal>
+    ensures value { answered result ≡ number_for (refusal_number refusal) values.now words.old }
+    ensures words_after { words.new ≡ words_for values.now words.old }
 {
-    let number = why.number as u64;
-    let place = why.met;
-    match place {
-        Met::Alone => number,
-        Met::Header { level, directory } => put(
+    put(words, values)?;
+    Err(refusal)
+}
+
+// Writes where a fault was met, and answers its refusal.
+#[tactic(auto, using(crate::proofs::Laws::number_fits, crate::proofs::Laws::words_kept))]
+pub fn put_fault(words: &mut [u64], fault: Fault) -> Result<(), Refusal>
+    ensures value { answered result ≡ number_for (refusal_number fault.refusal) (lay_carried (carried_of fault.met)) words.old }
+    ensures words_after { words.new ≡ words_for (lay_carried (carried_of fault.met)) words.old }
+{
+    match fault.met {
+        Met::Alone => Err(fault.refusal),
+        Met::Header { level, directory } => refuse(
             words,
-            number,
-            &[HEADER, level as u64, 0, directory as u64],
+            fault.refusal,
+            &[HEADER, u64::from(level), 0, u64::from(directory)],
         ),
         Met::Entry {
             level,
             index,
             directory,
-        } => put(
+        } => refuse(
             words,
-            number,
-            &[ENTRY, level as u64, index as u64, directory as u64],
+            fault.refusal,
+            &[
+                ENTRY,
+                u64::from(level),
+                u64::from(index),
+                u64::from(directory),
+            ],
         ),
     }
 }

@@ -1,5 +1,5 @@
 -- What a consistent mailbox has, as facts instead of a test; and that a caller with no untaken post finds room in the line. Assumes nothing.
-use mathlib.Core.Bool.{Bool, true, false, ◌&&◌, false≢true}
+use mathlib.Core.Bool.{Bool, true, false, ◌&&◌}
 use mathlib.Core.List.{List, [], ◌∷◌}
 use mathlib.Core.Path.{◌≡◌, refl}
 use Prim.Native.Nat.{ℕ, zero, suc, ◌+◌, ◌<◌, ◌≤◌}
@@ -8,9 +8,10 @@ use native.Mathlib.Decide.{ℕ_discrete}
 use lib.ListN.{length, length-take}
 use lib.Dec.{eqb, leb}
 use borrow.Author.Tests.{eq-eqb, ne_eqb, le-leb, eqb-true, leb-true}
+use Rattle.std.proofs.lemmas.Bool.{and_parts}
 use Rattle.mailbox.specs.declared.Phase.TheVariants.{Response}
-use Rattle.mailbox.specs.declared.PlaceState.{PlaceState}
-use Rattle.mailbox.specs.declared.PlaceState.TheVariants.{Free, Waiting, Ready}
+use Rattle.mailbox.specs.declared.Place.{Place}
+use Rattle.mailbox.specs.declared.Place.TheVariants.{Free, Waiting, Ready}
 use Rattle.mailbox.specs.declared.Post.{Post}
 use Rattle.mailbox.specs.declared.Mailbox.{Mailbox}
 use Rattle.mailbox.specs.Machine.{waiting, state_of}
@@ -22,15 +23,11 @@ pub record Consistent (m : Mailbox) : Type 0 where
   pub register : register_fits m.register ≡ true
   pub callers : (c : ℕ) → c ≤ 7 → times_in c (waiting m) + register_holds c m.register ≡ waits (state_of m c)
 
-pub both : (a b : Bool) → a && b ≡ true → (a ≡ true) × (b ≡ true)
-both true b e = (refl, e)
-both false b e = absurd (false≢true e)
-
 pub all_facts : (n : ℕ) (f : ℕ → Bool) → all_below n f ≡ true → (i : ℕ) → i < n → f i ≡ true
 unfolding all_below
 all_facts zero f e i h = absurd (omega arith)
 all_facts (suc n) f e i h =
-    let b = both (f n) (all_below n f) e in
+    let b = and_parts (f n) (all_below n f) e in
     go b.0 (λ p. all_facts n f b.1 i p) (ℕ_discrete i n)
   where
     go : f n ≡ true → (i < n → f i ≡ true) → Dec (i ≡ n) → f i ≡ true
@@ -45,9 +42,9 @@ all_test (suc n) f h = rw (h n (omega arith)) (all_test n f (λ i p. h i (omega 
 pub consistent_facts : (m : Mailbox) → consistent_of m ≡ true → Consistent m
 unfolding consistent_of
 consistent_facts m e =
-    let a = both _ _ e in
-    let b = both _ _ a.0 in
-    let d = both _ _ b.0 in
+    let a = and_parts _ _ e in
+    let b = and_parts _ _ a.0 in
+    let d = and_parts _ _ b.0 in
     record {
       short = leb-true _ _ d.0;
       posts = d.1;
@@ -126,14 +123,19 @@ sum_times : (l : List Post) → posts_fit l ≡ true → sum_below 8 (λ c. time
 unfolding times_in posts_fit
 sum_times [] e = sum_zero 8
 sum_times (p ∷ l) e =
-    let a = both (post_fits p) (posts_fit l) e in
-    let b = both (leb p.caller 7) (leb p.command 0x3FF) a.0 in
+    let a = and_parts (post_fits p) (posts_fit l) e in
+    let b = and_parts (leb p.caller 7) (leb p.command 0x3FF) a.0 in
     let h : p.caller ≤ 7 = leb-true _ _ b.0 in
     let s = sum_one 8 p.caller (omega arith) in
     let t = sum_times l a.1 in
     rw (sum_add 8 (λ c. once (eqb p.caller c)) (λ c. times_in c l)) (omega arith)
 
-waits_le : (s : PlaceState) → waits s ≤ 1
+pub waits_one : (s : Place) → 1 ≤ waits s → s ≡ Waiting
+waits_one Free h = absurd (omega arith)
+waits_one Waiting h = refl
+waits_one (Ready w) h = absurd (omega arith)
+
+pub waits_le : (s : Place) → waits s ≤ 1
 waits_le Free = omega arith
 waits_le Waiting = omega arith
 waits_le (Ready w) = omega arith

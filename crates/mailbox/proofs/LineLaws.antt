@@ -1,31 +1,21 @@
 -- The line: one post more at its end, and its oldest post gone. Assumes nothing.
 use mathlib.Core.List.{List, [], ◌∷◌, ◌++◌}
-use mathlib.Core.Path.{◌≡◌, refl, sym, ap}
+use mathlib.Core.Path.{◌≡◌, refl, sym, ap, ◌∙◌}
 use Prim.Native.Nat.{ℕ, zero, suc, ◌+◌, ◌-◌, ◌<◌, ◌≤◌}
 use native.Mathlib.Omega.{arith}
 use native.Mathlib.Numerals.{add-one}
-use lib.ListN.{length, get_or, take, set, length-append, length-drop, drop_of_length-le}
-use lib.Seq.{take-append-le, take-suc-set, drop-cons}
-use Rattle.firmware.specs.Rules.{fresh_firmware}
-use Rattle.firmware.specs.declared.Firmware.{Firmware}
+use lib.ListN.{length, get_or, take, drop, set, length-append, length-drop}
+use lib.Seq.{take-append-le, take-suc-set, set-append_seam}
 use Rattle.mailbox.specs.declared.Post.{Post}
-use Rattle.mailbox.specs.Machine.{no_post, shifted, mailbox_before, fresh_mailbox}
+use Rattle.mailbox.specs.Machine.{no_post, shifted}
 
--- ---- `shift`: the seven posts behind the first, and an empty slot
-pub shift_is : (l : List Post) → length l ≡ 8
-    → get_or l 1 no_post ∷ get_or l 2 no_post ∷ get_or l 3 no_post ∷ get_or l 4 no_post ∷ get_or l 5 no_post ∷ get_or l 6 no_post ∷ get_or l 7 no_post ∷ no_post ∷ [] ≡ shifted l
+-- ---- a turn by one, and an empty slot in the place of the first post
+pub shift_is : (l : List Post) → length l ≡ 8 → shifted l ≡ set (drop 1 l ++ take 1 l) 7 no_post
 unfolding shifted
-shift_is l e =
-    rw (
-      drop-cons l 1 no_post (omega arith),
-      drop-cons l 2 no_post (omega arith),
-      drop-cons l 3 no_post (omega arith),
-      drop-cons l 4 no_post (omega arith),
-      drop-cons l 5 no_post (omega arith),
-      drop-cons l 6 no_post (omega arith),
-      drop-cons l 7 no_post (omega arith),
-      drop_of_length-le l {i = 8} (omega arith),
-    )
+shift_is (a ∷ l) e =
+    let k : 7 ≡ length l = omega arith in
+    sym (ap (λ (i : ℕ). set (l ++ (a ∷ [])) i no_post) k ∙ set-append_seam l a [] no_post)
+shift_is [] e = absurd (omega arith)
 
 pub shifted_long : (l : List Post) → length l ≡ 8 → length (shifted l) ≡ 8
 unfolding shifted
@@ -43,7 +33,3 @@ line_first (a ∷ l) (suc n) h z =
 -- ---- one more at the end
 pub line_last : (l : List Post) (n : ℕ) (p : Post) → n < length l → take (n + 1) (set l n p) ≡ take n l ++ (p ∷ [])
 line_last l n p h = rw add-one (take-suc-set l n p h)
-
--- ---- the fresh mailbox
-pub fresh_is : (f : Firmware) → f ≡ fresh_firmware → mailbox_before f ≡ fresh_mailbox
-fresh_is f e = rw e

@@ -1,17 +1,12 @@
 -- The five calls of document 01: what each answers and the mailbox after it, first failing check first. Assumes nothing: these are definitions.
-use Rattle.std.specs.Prelude.{Bool, true, false, cond, ℕ, eqb, leb}
-use Rattle.reply.specs.Reply.{Reply, given, refused, alone, guard}
+use Rattle.std.specs.Prelude.{Bool, true, false, cond, ℕ, eqb, leb, Result}
+use Rattle.reply.specs.Reply.{Reply, given, refused, alone, guard, told_alone}
+use Rattle.reply.specs.declared.Refusal.{Refusal}
 use Rattle.mailbox.specs.declared.Phase.{Phase}
 use Rattle.mailbox.specs.declared.Phase.TheVariants.{Idle, Command, Response}
-use Rattle.mailbox.specs.declared.PlaceState.{PlaceState}
-use Rattle.mailbox.specs.declared.PlaceState.TheVariants.{Free, Waiting, Ready}
+use Rattle.mailbox.specs.declared.Place.{Place}
+use Rattle.mailbox.specs.declared.Place.TheVariants.{Free, Waiting, Ready}
 use Rattle.mailbox.specs.declared.Mailbox.{Mailbox}
-use Rattle.mailbox_calls.specs.declared.PostAnswer.{PostAnswer}
-use Rattle.mailbox_calls.specs.declared.PostAnswer.TheVariants as post-answer
-use Rattle.mailbox_calls.specs.declared.WordAnswer.{WordAnswer}
-use Rattle.mailbox_calls.specs.declared.WordAnswer.TheVariants as word-answer
-use Rattle.mailbox_calls.specs.declared.AfterPost.{AfterPost}
-use Rattle.mailbox_calls.specs.declared.AfterTake.{AfterTake}
 use Rattle.mailbox.specs.Machine.{state_of, is_free, joined, with_oldest, with_response, handed_over, freed}
 use Rattle.mailbox.specs.Consistent.{consistent_of}
 
@@ -29,8 +24,12 @@ leaves m (given a) = after a.mailbox (given a.answer)
 leaves m (refused number carried) = after m (refused number carried)
 
 -- ---- post
-pub data Accepted : Type 0 where
-  accepted : Accepted
+-- nothing is given with an accepted post
+abbrev pub Accepted : Type 0
+Accepted = Unit {0}
+
+pattern abbrev pub accepted : Accepted
+accepted = tt
 
 unfoldable pub post_of : Mailbox → (caller command d : ℕ) → After (Reply Accepted)
 post_of m caller command d =
@@ -67,7 +66,7 @@ unfoldable pub unload_of : Mailbox → After (Reply Bool)
 unload_of m = leaves m (guard (consistent_of m) 5 (given (unloaded_from m m.register)))
 
 -- ---- take
-abbrev pub taken_from : Mailbox → (caller : ℕ) → PlaceState → Reply (After ℕ)
+abbrev pub taken_from : Mailbox → (caller : ℕ) → Place → Reply (After ℕ)
 taken_from m caller Free = refused 8 alone  -- no untaken post (8)
 taken_from m caller Waiting = refused 11 alone  -- not unloaded yet (11)
 taken_from m caller (Ready word) = given (after (freed m caller) word)  -- else the word
@@ -79,17 +78,6 @@ take_of m caller =
     (guard (leb caller 7) 9  -- caller 0 to 7 (9)
     (taken_from m caller (state_of m caller))))
 
--- ---- what the answers tell: document 01's number, or what is given
-abbrev pub told_post : PostAnswer → Reply Accepted
-told_post post-answer.Accepted = given accepted
-told_post (post-answer.Refused why) = refused why.number alone
-
-abbrev pub told_word : WordAnswer → Reply ℕ
-told_word (word-answer.Word word) = given word
-told_word (word-answer.Refused why) = refused why.number alone
-
-abbrev pub told_after_post : AfterPost → After (Reply Accepted)
-told_after_post r = after r.mailbox (told_post r.answer)
-
-abbrev pub told_after_take : AfterTake → After (Reply ℕ)
-told_after_take r = after r.mailbox (told_word r.answer)
+-- ---- what a call tells: document 01's number, or what is given, beside the mailbox after it
+abbrev pub told_after : {A : Type 0} → After (Result A Refusal) → After (Reply A)
+told_after r = after r.mailbox (told_alone r.answer)

@@ -13,19 +13,19 @@ use borrow.Author.Tests.{eq-eqb, ne_eqb, le-leb, leb-true}
 use Rattle.reply.specs.Reply.{given}
 use Rattle.firmware.specs.Word.{word_of}
 use Rattle.firmware.specs.declared.Firmware.{Firmware}
+use Rattle.std.proofs.lemmas.Bool.{and_parts}
 use Rattle.mailbox.specs.declared.Phase.{Phase}
 use Rattle.mailbox.specs.declared.Phase.TheVariants.{Idle, Command, Response}
-use Rattle.mailbox.specs.declared.PlaceState.{PlaceState}
-use Rattle.mailbox.specs.declared.PlaceState.TheVariants.{Free, Waiting, Ready}
+use Rattle.mailbox.specs.declared.Place.TheVariants.{Free, Waiting, Ready}
 use Rattle.mailbox.specs.declared.Place.{Place}
 use Rattle.mailbox.specs.declared.Post.{Post}
 use Rattle.mailbox.specs.declared.Mailbox.{Mailbox}
-use Rattle.mailbox.specs.Machine.{post_by, no_post, command_word, waiting, place_with, state_at, state_of, joined, with_oldest, with_response, handed_over, freed}
+use Rattle.mailbox.specs.Machine.{post_by, no_post, command_word, waiting, state_at, state_of, joined, with_oldest, with_response, handed_over, freed}
 use Rattle.mailbox.specs.Consistent.{post_fits, posts_fit, register_fits, times_in, register_holds, waits}
 use Rattle.mailbox_calls.specs.Calls.{accepted}
 use Rattle.mailbox.proofs.ConsistentLaws.{times_append, fit_append}
 use Rattle.mailbox.proofs.LineLaws.{shifted_long, line_first, line_last}
-use Rattle.mailbox.proofs.Facts.{Consistent, both}
+use Rattle.mailbox.proofs.Facts.{Consistent, waits_one}
 use Rattle.mailbox_demand3.specs.Calls.{posted, loaded, turned, unloaded, took}
 use Rattle.mailbox_demand3.specs.Log.{got, Log, noted}
 use Rattle.mailbox_demand3.specs.Sequence.{state_after, answers_to, words_of}
@@ -38,7 +38,7 @@ Holds (Command c w) inside = (p : Post) × (inside ≡ p ∷ []) × (p.caller �
 Holds (Response c w) inside = inside ≡ []
 
 -- the word in a place, and the caller's word in the register
-abbrev pub ready : PlaceState → List ℕ
+abbrev pub ready : Place → List ℕ
 ready Free = []
 ready Waiting = []
 ready (Ready w) = w ∷ []
@@ -60,22 +60,14 @@ pub record Kept (start : Firmware) (m : Mailbox) (g : Log) : Type 0 where
   pub state : m.firmware ≡ state_after start ran
   pub words : (c : ℕ) → words_of c g.taken ++ (ready (state_of m c) ++ answered c m.register) ≡ words_of c (answers_to start ran)
 
--- ---- a place after one is set
-module _ (l : List Place) (c : ℕ) (s : PlaceState) where
-  pub at_same : c < length l → state_at (set l c (place_with s)) c ≡ s
-  at_same h = ap (λ (p : Place). p.state) (get_or-set_same l c (place_with s) (place_with Free) h)
-
-  pub at_other : (i : ℕ) → (i ≡ c → ⊥) → state_at (set l c (place_with s)) i ≡ state_at l i
-  at_other i h = ap (λ (p : Place). p.state) (get_or-set_other l c i (place_with s) (place_with Free) h)
-
--- what holds of every place after one is set: of that one, and of each other
-module _ (P : ℕ → PlaceState → Type 0) (l : List Place) (c : ℕ) (s : PlaceState) where
-  at_every : c < length l → P c s → ((i : ℕ) → (i ≡ c → ⊥) → P i (state_at l i)) → (i : ℕ) → P i (state_at (set l c (place_with s)) i)
+-- ---- what holds of every place after one is set: of that one, and of each other
+module _ (P : ℕ → Place → Type 0) (l : List Place) (c : ℕ) (s : Place) where
+  at_every : c < length l → P c s → ((i : ℕ) → (i ≡ c → ⊥) → P i (state_at l i)) → (i : ℕ) → P i (state_at (set l c s) i)
   at_every h here others i = go (ℕ_discrete i c)
     where
-      go : Dec (i ≡ c) → P i (state_at (set l c (place_with s)) i)
-      go (yes e) = rw (e, at_same l c s h) here
-      go (no n) = rw (at_other l c s i n) (others i n)
+      go : Dec (i ≡ c) → P i (state_at (set l c s) i)
+      go (yes e) = rw (e, get_or-set_same l c s Free h) here
+      go (no n) = rw (get_or-set_other l c i s Free n) (others i n)
 
 module _ {start : Firmware} (m : Mailbox) (g : Log) (k : Kept start m g) where
   long : (c : ℕ) → c ≤ 7 → c < length m.places
@@ -107,7 +99,7 @@ module _ {start : Firmware} (m : Mailbox) (g : Log) (k : Kept start m g) where
     join_kept = record {
       good = record { short = omega arith; posts = rw join_line join_fits; register = k.good.register; callers = λ i h. rw join_line (join_callers i h) };
       line_long = length-set m.line m.count p ∙ k.line_long;
-      places_long = length-set m.places c (place_with Waiting) ∙ k.places_long;
+      places_long = length-set m.places c Waiting ∙ k.places_long;
       ran = k.ran;
       inside = k.inside;
       holds = k.holds;
@@ -143,8 +135,8 @@ module _ {start : Firmware} (m : Mailbox) (g : Log) (k : Kept start m g) where
     pub load_kept : Kept start (with_oldest m) (noted g (loaded (given true)))
     unfolding register_fits
     load_kept =
-        let b = both (post_fits first) (posts_fit (waiting (with_oldest m))) load_fits in
-        let f = both (leb first.caller 7) (leb first.command 0x3FF) b.0 in
+        let b = and_parts (post_fits first) (posts_fit (waiting (with_oldest m))) load_fits in
+        let f = and_parts (leb first.caller 7) (leb first.command 0x3FF) b.0 in
         record {
           good = record { short = let h = k.good.short in omega arith; posts = b.1; register = rw (f.0, load_command); callers = load_callers };
           line_long = shifted_long m.line k.line_long;
@@ -162,7 +154,7 @@ module _ {start : Firmware} (m : Mailbox) (g : Log) (k : Kept start m g) where
   module _ (c w : ℕ) (is : m.register ≡ Command c w) where
     turn_low : leb c 7 ≡ true
     unfolding register_fits
-    turn_low = (both _ _ (rw is at k.good.register)).0
+    turn_low = (and_parts _ _ (rw is at k.good.register)).0
 
     turn_callers : (i : ℕ) → i ≤ 7 → times_in i (waiting m) + register_holds i (with_response m c w).register ≡ waits (state_of m i)
     unfolding register_holds
@@ -202,11 +194,6 @@ module _ {start : Firmware} (m : Mailbox) (g : Log) (k : Kept start m g) where
     unfolding register_fits
     unload_low = leb-true c 7 (rw is at k.good.register)
 
-    waits_one : (s : PlaceState) → 1 ≤ waits s → s ≡ Waiting
-    waits_one Free h = absurd (omega arith)
-    waits_one Waiting h = refl
-    waits_one (Ready v) h = absurd (omega arith)
-
     -- the caller's place waits
     unload_waits : state_of m c ≡ Waiting
     unfolding register_holds
@@ -229,7 +216,7 @@ module _ {start : Firmware} (m : Mailbox) (g : Log) (k : Kept start m g) where
     unload_kept = record {
       good = record { short = k.good.short; posts = k.good.posts; register = refl; callers = unload_callers };
       line_long = k.line_long;
-      places_long = length-set m.places c (place_with (Ready w)) ∙ k.places_long;
+      places_long = length-set m.places c (Ready w) ∙ k.places_long;
       ran = k.ran;
       inside = k.inside;
       holds = subst (λ r. Holds r k.inside) is k.holds;
@@ -258,7 +245,7 @@ module _ {start : Firmware} (m : Mailbox) (g : Log) (k : Kept start m g) where
     take_kept = record {
       good = record { short = k.good.short; posts = k.good.posts; register = k.good.register; callers = take_callers };
       line_long = k.line_long;
-      places_long = length-set m.places c (place_with Free) ∙ k.places_long;
+      places_long = length-set m.places c Free ∙ k.places_long;
       ran = k.ran;
       inside = k.inside;
       holds = k.holds;

@@ -9,27 +9,16 @@ use lib.ListN.{length}
 use lib.Seq.{get_or-take, length-take-le}
 use lib.Dec.{leb}
 use borrow.Author.Tests.{eq-eqb, ne_eqb, le-leb, leb-true}
+use Rattle.std.proofs.lemmas.Bool.{and_parts}
 use Rattle.mailbox.specs.declared.Phase.{Phase}
 use Rattle.mailbox.specs.declared.Phase.TheVariants.{Idle, Command, Response}
-use Rattle.mailbox.specs.declared.PlaceState.{PlaceState}
-use Rattle.mailbox.specs.declared.PlaceState.TheVariants.{Free, Waiting, Ready}
+use Rattle.mailbox.specs.declared.Place.TheVariants.{Waiting}
 use Rattle.mailbox.specs.declared.Mailbox.{Mailbox}
 use Rattle.mailbox.specs.Machine.{no_post, waiting, state_of}
 use Rattle.mailbox.specs.Consistent.{post_fits, register_fits, times_in, register_holds, waits}
-use Rattle.mailbox.proofs.Facts.{Consistent, both, consistent_facts, consistent_test}
+use Rattle.mailbox.proofs.Facts.{Consistent, consistent_facts, consistent_test, waits_one, waits_le}
 use Rattle.mailbox_good.specs.Good.{post_at, InLine, InRegister, GoodMailbox, ConsistentBothWays}
 use Rattle.mailbox_good.proofs.LineFacts.{At, fit_at, fit_all, times_at, times_twice, times_found, times_found_two}
-
--- ---- a place
-waits_one : (s : PlaceState) → 1 ≤ waits s → s ≡ Waiting
-waits_one Free h = absurd (omega arith)
-waits_one Waiting h = refl
-waits_one (Ready word) h = absurd (omega arith)
-
-waits_le : (s : PlaceState) → waits s ≤ 1
-waits_le Free = omega arith
-waits_le Waiting = omega arith
-waits_le (Ready word) = omega arith
 
 -- ---- the register
 -- it holds the caller's post, once, or it does not
@@ -57,14 +46,14 @@ module _ (c : ℕ) where
   register_low : (p : Phase) → register_fits p ≡ true → InRegister p c → c ≤ 7
   unfolding register_fits
   register_low Idle f e = absurd e
-  register_low (Command holder word) f e = let h = leb-true holder 7 (both _ _ f).0 in omega arith
+  register_low (Command holder word) f e = let h = leb-true holder 7 (and_parts _ _ f).0 in omega arith
   register_low (Response holder word) f e = let h = leb-true holder 7 f in omega arith
 
 register_command : (p : Phase) (caller word : ℕ) → register_fits p ≡ true → p ≡ Command caller word → word < 0x400_0000
 unfolding register_fits
 register_command p caller word f e =
     let g : register_fits (Command caller word) ≡ true = rw e at f in
-    let h = leb-true (word / 0x1_0000) 0x3FF (both (leb caller 7) _ g).1 in
+    let h = leb-true (word / 0x1_0000) 0x3FF (and_parts (leb caller 7) _ g).1 in
     omega arith
 
 register_fits_lem : (p : Phase) → ((c : ℕ) → InRegister p c → c ≤ 7) → ((caller word : ℕ) → p ≡ Command caller word → word < 0x400_0000) → register_fits p ≡ true
@@ -103,7 +92,7 @@ module _ (m : Mailbox) (long : length m.line ≡ 8) (k : Consistent m) where
 
   low : (c i : ℕ) → InLine m c i → c ≤ 7
   low c i a =
-      let h = leb-true (post_at m i).caller 7 (both (leb (post_at m i).caller 7) _ (fits i a.0)).0 in
+      let h = leb-true (post_at m i).caller 7 (and_parts (leb (post_at m i).caller 7) _ (fits i a.0)).0 in
       let e = a.1 in
       omega arith
 
@@ -146,7 +135,7 @@ module _ (m : Mailbox) (long : length m.line ≡ 8) (k : Consistent m) where
     waits_for_one = λ c h s. found c (k.callers c h ∙ ap waits s) (held c m.register);
     line_caller = low;
     register_caller = λ c r. let h = register_low c m.register k.register r in omega arith;
-    line_command = λ i h. leb-true (post_at m i).command 0x3FF (both (leb (post_at m i).caller 7) _ (fits i h)).1;
+    line_command = λ i h. leb-true (post_at m i).command 0x3FF (and_parts (leb (post_at m i).caller 7) _ (fits i h)).1;
     register_command = λ c w e. let h = register_command m.register c w k.register e in omega arith;
   }
 

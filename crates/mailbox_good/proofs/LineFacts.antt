@@ -7,17 +7,17 @@ use native.Mathlib.Omega.{arith}
 use native.Mathlib.Decide.{ℕ_discrete}
 use lib.ListN.{length, get_or}
 use borrow.Author.Tests.{eq-eqb, ne_eqb}
+use Rattle.std.proofs.lemmas.Bool.{and_parts}
 use Rattle.mailbox.specs.declared.Post.{Post}
 use Rattle.mailbox.specs.Machine.{no_post}
 use Rattle.mailbox.specs.Consistent.{post_fits, posts_fit, times_in}
-use Rattle.mailbox.proofs.Facts.{both}
 
 -- ---- every post fits
 pub fit_at : (l : List Post) (i : ℕ) → posts_fit l ≡ true → i < length l → post_fits (get_or l i no_post) ≡ true
 unfolding posts_fit
 fit_at [] i e h = absurd (omega arith)
-fit_at (p ∷ l) zero e h = (both (post_fits p) (posts_fit l) e).0
-fit_at (p ∷ l) (suc i) e h = fit_at l i (both (post_fits p) (posts_fit l) e).1 (omega arith)
+fit_at (p ∷ l) zero e h = (and_parts (post_fits p) (posts_fit l) e).0
+fit_at (p ∷ l) (suc i) e h = fit_at l i (and_parts (post_fits p) (posts_fit l) e).1 (omega arith)
 
 pub fit_all : (l : List Post) → ((i : ℕ) → i < length l → post_fits (get_or l i no_post) ≡ true) → posts_fit l ≡ true
 unfolding posts_fit

@@ -1,10 +1,10 @@
 // Whether lent words begin with a mailbox's that keeps document 01's rules.
 #![tactic(auto)]
 
-ghost use Rattle.std.specs.Prelude.{◌≡◌, true, ◌&&◌, ℕ, ◌+◌, ◌<◌, ◌≤◌, length, get_or, take, eqb};
+ghost use Rattle.std.specs.Prelude.{◌≡◌, true, ◌&&◌, ℕ, ◌+◌, ◌<◌, ◌≤◌, length, get_or, eqb, map};
 ghost use Rattle.mailbox.specs.Consistent.{posts_fit, times_in, caller_fits, all_below, consistent_of};
-ghost use Rattle.mailbox_layout.specs.Layout.{start_of_places, start_of_interrupts, words_of_mailbox, up_to, phase_word, caller_word, word_word, part_word, place_word, interrupt_word};
-ghost use Rattle.mailbox_layout.specs.Layout.{phase_from, part_from, place_from, interrupt_from, post_at, place_at, unpack_of};
+ghost use Rattle.mailbox_layout.specs.Layout.{start_of_places, start_of_interrupts, words_of_mailbox, phase_word, caller_word, word_word, part_word, place_word, interrupt_word};
+ghost use Rattle.mailbox_layout.specs.Layout.{phase_from, part_from, post_from, place_from, interrupt_from, unpack_of};
 ghost use Rattle.mailbox_held.specs.Held.{held_in, held_between};
 
 use mailbox::Phase;
@@ -17,93 +17,30 @@ use mailbox_layout::{
 fn phase_held(phase: u64, caller: u64, word: u64) -> bool
     ensures { result ≡ (eqb phase (phase_word (phase_from phase caller word)) && eqb caller (caller_word (phase_from phase caller word)) && eqb word (word_word (phase_from phase caller word))) }
 {
-    if phase == 0 {
-        if caller == 0 { word == 0 } else { false }
-    } else {
-        if phase <= 2 {
-            if caller < 0x1_0000_0000 {
-                word < 0x1_0000_0000
-            } else {
-                false
-            }
-        } else {
-            false
-        }
+    match phase {
+        0 => caller == 0 && word == 0,
+        1 | 2 => caller < 0x1_0000_0000 && word < 0x1_0000_0000,
+        _ => false,
     }
 }
 
 fn part_held(word: u64) -> bool
     ensures { result ≡ eqb word (part_word (part_from word)) }
 {
-    if word == 0 {
-        true
-    } else {
-        word / 0x1_0000 == 1
-    }
+    word == 0 || word / 0x1_0000 == 1
 }
 
 fn place_held(word: u64) -> bool
     ensures { result ≡ eqb word (place_word (place_from word)) }
 {
-    if word == 0 {
-        return true;
-    }
-    if word == 0x1_0000_0000 {
-        true
-    } else {
-        word / 0x1_0000_0000 == 2
-    }
+    word == 0 || word == 0x1_0000_0000 || word / 0x1_0000_0000 == 2
 }
 
 // Below 4 stand no descriptor and one of three zero parts, each with delivery on and off. Bits 15:2 are no part's.
 fn interrupt_held(word: u64) -> bool
     ensures { result ≡ eqb word (interrupt_word (interrupt_from word)) }
 {
-    if word < 4 {
-        return true;
-    }
-    if word % 2 == 1 {
-        word / 4 % 0x4000 == 0
-    } else {
-        false
-    }
-}
-
-fn head_held(words: &[u64]) -> bool
-    requires { words_of_mailbox ≤ length words.now }
-    ensures { result ≡ held_between words.now 0 start_of_places }
-{
-    if phase_held(words[REGISTER], words[CALLER], words[WORD]) {
-        if words[INTERFACE] <= 1 {
-            if part_held(words[PART1]) {
-                if part_held(words[PART2]) {
-                    part_held(words[PART3])
-                } else {
-                    false
-                }
-            } else {
-                false
-            }
-        } else {
-            false
-        }
-    } else {
-        false
-    }
-}
-
-fn places_held(words: &[u64]) -> bool
-    requires { words_of_mailbox ≤ length words.now }
-    ensures { result ≡ held_between words.now start_of_places start_of_interrupts }
-{
-    let mut i: usize = PLACES;
-    while i < INTERRUPTS {
-        if place_held(words[i]) {} else {
-            return false;
-        }
-        i += 1;
-    }
-    true
+    word < 4 || word % 2 == 1 && word / 4 % 0x4000 == 0
 }
 
 // Are four words zero? They are read before they are tested, so that one test is made of four.
@@ -115,146 +52,139 @@ fn four_zero(words: &[u64], at: usize) -> bool
     let b = words[at + 1];
     let c = words[at + 2];
     let d = words[at + 3];
-    if a == 0 {
-        if b == 0 {
-            if c == 0 {
-                return d == 0;
-            }
-        }
-    }
-    false
+    a == 0 && b == 0 && c == 0 && d == 0
 }
 
-// The words of eight IDs. Most keep nothing.
-fn eight_held(words: &[u64], at: usize) -> bool
-    requires { (start_of_interrupts ≤ at) × (at + 8 ≤ words_of_mailbox) × (words_of_mailbox ≤ length words.now) }
-    ensures { result ≡ held_between words.now at (at + 8) }
+// The rules, asked of the line and the places.
+
+// Whether the posts of the line have callers 0 to 7 and commands at most 0x3FF.
+fn posts_fit(line: &[u64]) -> bool
+    ensures { result ≡ posts_fit (map post_from line.now) }
 {
-    if four_zero(words, at) {
-        if four_zero(words, at + 4) {
-            return true;
-        }
-    }
-    let mut i: usize = at;
-    while i < at + 8 {
-        if interrupt_held(words[i]) {} else {
-            return false;
-        }
-        i += 1;
-    }
-    true
+    line.iter()
+        .all(|&word| mailbox_layout::post_from(word).fits())
 }
 
-fn interrupts_held(words: &[u64]) -> bool
-    requires { words_of_mailbox ≤ length words.now }
-    ensures { result ≡ held_between words.now start_of_interrupts words_of_mailbox }
+// How many posts of the line are the caller's. Added up with no branch, for speed: `filter` and `count` make one of each post.
+#[tactic(auto, using(crate::proofs::FitLaws::times_all, std::proofs::lemmas::List::take_all))]
+fn times_in(line: &[u64], caller: u32) -> usize
+    ensures value { result ≡ times_in caller (map post_from line.now) }
+    ensures upper_bound { result ≤ length line.now }
 {
-    let mut i: usize = INTERRUPTS;
-    while i < WORDS {
-        if eight_held(words, i) {} else {
-            return false;
-        }
-        i += 8;
-    }
-    true
-}
-
-// Whether the lent words begin with a mailbox's.
-fn held_in(words: &[u64]) -> bool
-    ensures { result ≡ held_in words.now }
-{
-    if words.len() < WORDS {
-        return false;
-    }
-    if head_held(words) {
-        if places_held(words) {
-            interrupts_held(words)
-        } else {
-            false
-        }
-    } else {
-        false
-    }
-}
-
-// Whether that mailbox keeps document 01's rules.
-
-// Whether the first n posts have callers 0 to 7 and commands at most 0x3FF.
-fn posts_fit(words: &[u64], n: usize) -> bool
-    requires { (n ≤ 8) × (words_of_mailbox ≤ length words.now) }
-    ensures { result ≡ posts_fit (take n (up_to (post_at words.now) 8)) }
-{
-    let mut i: usize = n;
-    while 0 < i {
-        i -= 1;
-        let post = mailbox_layout::post_from(words[LINE + i]);
-        if post.fits() {} else {
-            return false;
-        }
-    }
-    true
-}
-
-// How many of the first n posts are the caller's.
-fn times_in(words: &[u64], n: usize, caller: u32) -> usize
-    requires { (n ≤ 8) × (words_of_mailbox ≤ length words.now) }
-    ensures value { result ≡ times_in caller (take n (up_to (post_at words.now) 8)) }
-    ensures upper_bound { result ≤ 8 }
-{
-    let mut total: usize = 0;
-    let mut i: usize = 0;
-    while i < n {
-        let post = mailbox_layout::post_from(words[LINE + i]);
-        total += post.is_of(caller);
-        i += 1;
+    let mut total = 0;
+    for &word in line {
+        total += mailbox_layout::post_from(word).is_of(caller);
     }
     total
 }
 
-// Whether each caller's post is found in line and register as often as its place says.
-fn callers_fit(words: &[u64], n: usize, register: Phase) -> bool
-    requires { (n ≤ 8) × (words_of_mailbox ≤ length words.now) }
-    ensures { result ≡ all_below 8 (caller_fits (take n (up_to (post_at words.now) 8)) register (up_to (place_at words.now) 8)) }
+// Whether a caller's post is found in line and register as often as its place says.
+#[tactic(auto, using(crate::proofs::FitLaws::place_read))]
+fn caller_fits(line: &[u64], places: &[u64], register: Phase, caller: u32) -> bool
+    requires few { length line.now ≤ 8 }
+    requires eight { length places.now ≡ 8 }
+    requires caller_bound { caller ≤ 7 }
+    ensures { result ≡ caller_fits (map post_from line.now) register (map place_from places.now) caller }
 {
-    let mut caller: u32 = 8;
-    while 0 < caller {
-        caller -= 1;
-        let place = mailbox_layout::place_from(words[PLACES + caller as usize]);
-        let state = place.state;
-        if times_in(words, n, caller) + register.holds(caller) != state.waits() {
-            return false;
-        }
-    }
-    true
+    let place = mailbox_layout::place_from(places[caller as usize]);
+    times_in(line, caller) + register.holds(caller) == place.waits()
 }
 
-fn consistent(words: &[u64]) -> bool
-    requires { words_of_mailbox ≤ length words.now }
-    ensures { result ≡ consistent_of (unpack_of words.now) }
+// The same for every caller.
+fn callers_fit(line: &[u64], places: &[u64], register: Phase) -> bool
+    requires few { length line.now ≤ 8 }
+    requires eight { length places.now ≡ 8 }
+    ensures { result ≡ all_below 8 (caller_fits (map post_from line.now) register (map place_from places.now)) }
 {
-    if 8 < words[COUNT] {
-        return false;
+    (0..8).all(|caller| caller_fits(line, places, register, caller))
+}
+
+// The whole.
+
+// Lent words, as many as a mailbox has at least.
+#[derive(Clone, Copy)]
+struct Packed<'a> {
+    words: &'a [u64],
+    ghost long: { words_of_mailbox ≤ length words.now },
+}
+
+impl Packed<'_> {
+    #[tactic(auto, using(crate::proofs::HeldLaws::head_all))]
+    fn head_held(self) -> bool
+        ensures { result ≡ held_between self.entry.words.now 0 start_of_places }
+    {
+        // by a name of its own, since a proof sees of a variable, and not of a field, that each word has 64 bits
+        let words = self.words;
+        phase_held(words[REGISTER], words[CALLER], words[WORD])
+            && words[INTERFACE] <= 1
+            && part_held(words[PART1])
+            && part_held(words[PART2])
+            && part_held(words[PART3])
     }
-    let n = words[COUNT] as usize;
-    let register = mailbox_layout::phase_from(words[REGISTER], words[CALLER], words[WORD]);
-    if posts_fit(words, n) {
-        if register.fits() {
-            callers_fit(words, n, register)
-        } else {
-            false
+
+    fn places_held(self) -> bool
+        ensures { result ≡ held_between self.entry.words.now start_of_places start_of_interrupts }
+    {
+        self.words[PLACES..INTERRUPTS]
+            .iter()
+            .all(|&word| place_held(word))
+    }
+
+    // The words of eight IDs. Most keep nothing.
+    fn eight_held(self, at: usize) -> bool
+        requires { (start_of_interrupts ≤ at) × (at + 8 ≤ words_of_mailbox) }
+        ensures { result ≡ held_between self.entry.words.now at (at + 8) }
+    {
+        if four_zero(self.words, at) && four_zero(self.words, at + 4) {
+            return true;
         }
-    } else {
-        false
+        self.words[at..at + 8]
+            .iter()
+            .all(|&word| interrupt_held(word))
+    }
+
+    fn interrupts_held(self) -> bool
+        ensures { result ≡ held_between self.entry.words.now start_of_interrupts words_of_mailbox }
+    {
+        (0..8).all(|eight| self.eight_held(INTERRUPTS + eight * 8))
+    }
+
+    // Whether the words begin with a mailbox's.
+    #[tactic(auto, using(crate::proofs::HeldLaws::held_parts))]
+    fn held(self) -> bool
+        ensures { result ≡ held_in self.entry.words.now }
+    {
+        self.head_held() && self.places_held() && self.interrupts_held()
+    }
+
+    // Whether that mailbox keeps document 01's rules.
+    #[tactic(auto, using(crate::proofs::FitLaws::not_few, crate::proofs::FitLaws::rules_read))]
+    fn consistent(self) -> bool
+        ensures { result ≡ consistent_of (unpack_of self.entry.words.now) }
+    {
+        if 8 < self.words[COUNT] {
+            return false;
+        }
+        let line = &self.words[LINE..LINE + self.words[COUNT] as usize];
+        let register = mailbox_layout::phase_from(
+            self.words[REGISTER],
+            self.words[CALLER],
+            self.words[WORD],
+        );
+        posts_fit(line)
+            && register.fits()
+            && callers_fit(line, &self.words[PLACES..INTERRUPTS], register)
     }
 }
 
 // Whether the lent words begin with a mailbox's that keeps document 01's rules.
+#[tactic(auto, using(crate::proofs::HeldLaws::held_long))]
 pub fn serves(words: &[u64]) -> bool
     ensures { result ≡ (held_in words.now && consistent_of (unpack_of words.now)) }
 {
-    if held_in(words) {
-        consistent(words)
-    } else {
-        false
+    if words.len() < WORDS {
+        return false;
     }
+    let packed = Packed { words };
+    packed.held() && packed.consistent()
 }

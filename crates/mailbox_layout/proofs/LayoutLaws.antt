@@ -1,27 +1,17 @@
 -- The words of a mailbox, and a mailbox of words: one law for each answer. Assumes nothing.
-use mathlib.Core.Bool.{Bool}
 use mathlib.Core.Path.{◌≡◌, refl, sym, ap, ◌∙◌}
 use mathlib.Core.Logic.{◌⊎◌, inl, inr}
 use mathlib.Core.List.{List, [], ◌∷◌, ◌++◌, map}
-use Prim.Native.Nat.{ℕ, zero, suc, ◌+◌, ◌*◌, ◌-◌, ◌/◌, ◌%◌, ◌≤◌, ◌<◌}
+use Prim.Native.Nat.{ℕ, zero, suc, ◌+◌, ◌-◌, ◌≤◌, ◌<◌}
 use native.Mathlib.Omega.{arith}
 use native.Mathlib.Nat.{eq-or-lt_of_le}
 use lib.ListN.{length, get_or, take, length-append, length-map, get_or-append, get_or-map}
 use lib.Seq.{get_or_at, get_or-append-add, take-suc, take-length}
-use lib.Dec.{eqb}
-use borrow.Author.Tests.{ne_eqb}
 use Rattle.firmware.specs.Rules.{nothing}
-use Rattle.firmware.specs.declared.Part.{Part}
-use Rattle.firmware.specs.declared.Part.TheVariants as part
-use Rattle.firmware.specs.declared.Descriptor.TheVariants as descriptor
-use Rattle.firmware.specs.declared.Interrupt.{Interrupt}
-use Rattle.mailbox.specs.declared.Phase.TheVariants.{Idle, Command, Response}
-use Rattle.mailbox.specs.declared.PlaceState.TheVariants.{Free, Waiting, Ready}
-use Rattle.mailbox.specs.declared.Place.{Place}
+use Rattle.mailbox.specs.declared.Place.TheVariants.{Free}
 use Rattle.mailbox.specs.declared.Mailbox.{Mailbox}
-use Rattle.mailbox.specs.Machine.{no_post, place_with}
-use Rattle.mailbox_layout.specs.Layout.{up_to, bit_of, part_word, post_word, place_word, interrupt_word, head_of, pack_of}
-use Rattle.mailbox_layout.specs.Layout.{phase_from, part_from, place_from, interrupt_from, firmware_from, unpack_of}
+use Rattle.mailbox.specs.Machine.{no_post}
+use Rattle.mailbox_layout.specs.Layout.{up_to, post_word, place_word, interrupt_word, head_of, pack_of, firmware_from, unpack_of}
 
 module _ {A : Type 0} (f : ℕ → A) where
   pub length_up_to : (n : ℕ) → length (up_to f n) ≡ n
@@ -125,88 +115,10 @@ module _ (m : Mailbox) (w : Whole m) where
         let long = posts_long in
         past_head a ∙ (get_or-append posts (spots ++ kept) 0 (i - 8) (omega arith) ∙ get_or-map post_word m.line (i - 8) no_post)
 
-    pub pack_place : 16 ≤ i → i < 24 → get_or (pack_of m) i 0 ≡ place_word (get_or m.places (i - 16) (place_with Free))
+    pub pack_place : 16 ≤ i → i < 24 → get_or (pack_of m) i 0 ≡ place_word (get_or m.places (i - 16) Free)
     pack_place a b =
         let long = spots_long in
-        past_line a ∙ (get_or-append spots kept 0 (i - 16) (omega arith) ∙ get_or-map place_word m.places (i - 16) (place_with Free))
+        past_line a ∙ (get_or-append spots kept 0 (i - 16) (omega arith) ∙ get_or-map place_word m.places (i - 16) Free)
 
     pub pack_interrupt : 24 ≤ i → get_or (pack_of m) i 0 ≡ interrupt_word (get_or m.firmware.interrupts (i - 24) nothing)
     pack_interrupt a = past_places a ∙ get_or-map interrupt_word m.firmware.interrupts (i - 24) nothing
-
--- ---- to words
-pub part_none : (p : Part) → p ≡ part.Absent → 0 ≡ part_word p
-part_none p e = rw e
-
-pub part_held : (p : Part) (v : ℕ) → p ≡ part.Held v → 0x1_0000 + v ≡ part_word p
-part_held p v e = rw e
-
-pub ruleset part-word-cases = (part_none, part_held)
-
-module _ (p : Place) where
-  pub place_free : p.state ≡ Free → 0 ≡ place_word p
-  place_free e = rw e
-
-  pub place_waiting : p.state ≡ Waiting → 0x1_0000_0000 ≡ place_word p
-  place_waiting e = rw e
-
-  pub place_ready : (w : ℕ) → p.state ≡ Ready w → 0x2_0000_0000 + w ≡ place_word p
-  place_ready w e = rw e
-
-pub ruleset place-word-cases = (place_free, place_waiting, place_ready)
-
-module _ (i : Interrupt) (on : ℕ) (q : on ≡ bit_of i.delivery) where
-  pub interrupt_none : i.descriptor ≡ descriptor.Absent → on * 2 ≡ interrupt_word i
-  interrupt_none e = rw (e, q)
-
-  pub interrupt_saved : (one two three : ℕ) → i.descriptor ≡ descriptor.Saved one two three
-      → 1 + on * 2 + one * 0x1_0000 + two * 0x1_0000_0000 + three * 0x1_0000_0000_0000 ≡ interrupt_word i
-  interrupt_saved one two three e = rw (e, q)
-
-pub ruleset interrupt-word-cases = (interrupt_none, interrupt_saved)
-
--- ---- from words
-module _ (k c w : ℕ) where
-  pub phase_idle : k ≡ 0 → Idle ≡ phase_from k c w
-  phase_idle e = rw e
-
-  pub phase_command : k ≡ 1 → Command (c % 0x1_0000_0000) (w % 0x1_0000_0000) ≡ phase_from k c w
-  phase_command e = rw e
-
-  pub phase_response : (k ≡ 0 → ⊥) → (k ≡ 1 → ⊥) → Response (c % 0x1_0000_0000) (w % 0x1_0000_0000) ≡ phase_from k c w
-  phase_response a b = rw (ne_eqb _ _ a, ne_eqb _ _ b)
-
-pub ruleset phase-cases = (phase_idle, phase_command, phase_response)
-
-module _ (w : ℕ) where
-  pub from_absent : w / 0x1_0000 ≡ 0 → part.Absent ≡ part_from w
-  from_absent e = rw e
-
-  pub from_held : (w / 0x1_0000 ≡ 0 → ⊥) → part.Held (w % 0x1_0000) ≡ part_from w
-  from_held e = rw (ne_eqb _ _ e)
-
-  pub from_free : w / 0x1_0000_0000 ≡ 0 → place_with Free ≡ place_from w
-  from_free e = rw e
-
-  pub from_waiting : w / 0x1_0000_0000 ≡ 1 → place_with Waiting ≡ place_from w
-  from_waiting e = rw e
-
-  pub from_ready : (w / 0x1_0000_0000 ≡ 0 → ⊥) → (w / 0x1_0000_0000 ≡ 1 → ⊥) → place_with (Ready (w % 0x1_0000_0000)) ≡ place_from w
-  from_ready a b = rw (ne_eqb _ _ a, ne_eqb _ _ b)
-
-  abbrev nothing_with : Bool → Interrupt
-  nothing_with on = record { descriptor = descriptor.Absent; delivery = on }
-
-  abbrev saved_with : Bool → Interrupt
-  saved_with on = record { descriptor = descriptor.Saved (w / 0x1_0000 % 0x1_0000) (w / 0x1_0000_0000 % 0x1_0000) (w / 0x1_0000_0000_0000 % 0x1_0000); delivery = on }
-
-  pub from_nothing : w % 2 ≡ 0 → nothing_with (eqb (w / 2 % 2) 1) ≡ interrupt_from w
-  from_nothing e = rw e
-
-  pub from_saved : (w % 2 ≡ 0 → ⊥) → saved_with (eqb (w / 2 % 2) 1) ≡ interrupt_from w
-  from_saved e = rw (ne_eqb _ _ e)
-
-pub ruleset part-cases = (from_absent, from_held)
-
-pub ruleset place-cases = (from_free, from_waiting, from_ready)
-
-pub ruleset interrupt-cases = (from_nothing, from_saved)

@@ -5,21 +5,16 @@
 --   16 to 23 the places of callers 0 to 7: 0 free, 2^32 waiting, 2 * 2^32 + w for the word w;
 --   24 to 87 the IDs 0 to 63: bit 0 a descriptor is saved, bit 1 delivery is on, parts 1, 2, 3 in bits 31:16, 47:32, 63:48.
 -- Assumes nothing: these are definitions.
-use Rattle.std.specs.Prelude.{Bool, true, false, cond, List, [], ◌∷◌, ◌++◌, map, ℕ, zero, suc, ◌+◌, ◌*◌, ◌/◌, ◌%◌, get_or, eqb}
-use Rattle.firmware.specs.declared.Part.{Part}
-use Rattle.firmware.specs.declared.Part.TheVariants as part
+use Rattle.std.specs.Prelude.{Bool, true, false, cond, List, [], ◌∷◌, ◌++◌, map, ℕ, zero, suc, ◌+◌, ◌*◌, ◌/◌, ◌%◌, get_or, eqb, Option, Some, None}
 use Rattle.firmware.specs.declared.Descriptor.{Descriptor}
-use Rattle.firmware.specs.declared.Descriptor.TheVariants as descriptor
 use Rattle.firmware.specs.declared.Interrupt.{Interrupt}
 use Rattle.firmware.specs.declared.Firmware.{Firmware}
 use Rattle.mailbox.specs.declared.Phase.{Phase}
 use Rattle.mailbox.specs.declared.Phase.TheVariants.{Idle, Command, Response}
-use Rattle.mailbox.specs.declared.PlaceState.{PlaceState}
-use Rattle.mailbox.specs.declared.PlaceState.TheVariants.{Free, Waiting, Ready}
 use Rattle.mailbox.specs.declared.Place.{Place}
+use Rattle.mailbox.specs.declared.Place.TheVariants.{Free, Waiting, Ready}
 use Rattle.mailbox.specs.declared.Post.{Post}
 use Rattle.mailbox.specs.declared.Mailbox.{Mailbox}
-use Rattle.mailbox.specs.Machine.{place_with}
 
 -- where the line, the places and the interrupts begin, and how many words there are
 abbrev pub start_of_line : ℕ
@@ -59,24 +54,21 @@ word_word Idle = 0
 word_word (Command caller word) = word
 word_word (Response caller word) = word
 
-abbrev pub part_word : (p : Part) → ℕ
-part_word part.Absent = 0
-part_word (part.Held value) = 0x1_0000 + value
+abbrev pub part_word : (p : Option ℕ) → ℕ
+part_word None = 0
+part_word (Some value) = 0x1_0000 + value
 
 abbrev pub post_word : (p : Post) → ℕ
 post_word p = p.caller * 0x1_0000_0000 + p.command * 0x1_0000 + p.«data»
 
-abbrev pub state_word : (state : PlaceState) → ℕ
-state_word Free = 0
-state_word Waiting = 0x1_0000_0000
-state_word (Ready word) = 0x2_0000_0000 + word
-
 abbrev pub place_word : (p : Place) → ℕ
-place_word p = state_word p.state
+place_word Free = 0
+place_word Waiting = 0x1_0000_0000
+place_word (Ready word) = 0x2_0000_0000 + word
 
-abbrev pub saved_word : (delivery : Bool) → Descriptor → ℕ
-saved_word delivery descriptor.Absent = bit_of delivery * 2
-saved_word delivery (descriptor.Saved one two three) = 1 + bit_of delivery * 2 + one * 0x1_0000 + two * 0x1_0000_0000 + three * 0x1_0000_0000_0000
+abbrev pub saved_word : (delivery : Bool) → Option Descriptor → ℕ
+saved_word delivery None = bit_of delivery * 2
+saved_word delivery (Some d) = 1 + bit_of delivery * 2 + d.part1 * 0x1_0000 + d.part2 * 0x1_0000_0000 + d.part3 * 0x1_0000_0000_0000
 
 abbrev pub interrupt_word : (i : Interrupt) → ℕ
 interrupt_word i = saved_word i.delivery i.descriptor
@@ -105,25 +97,22 @@ phase_from phase caller word =
     (cond (eqb phase 1) (Command (caller % 0x1_0000_0000) (word % 0x1_0000_0000))
     (Response (caller % 0x1_0000_0000) (word % 0x1_0000_0000)))
 
-abbrev pub part_from : (word : ℕ) → Part
-part_from word = cond (eqb (word / 0x1_0000) 0) part.Absent (part.Held (word % 0x1_0000))
+abbrev pub part_from : (word : ℕ) → Option ℕ
+part_from word = cond (eqb (word / 0x1_0000) 0) None (Some (word % 0x1_0000))
 
 abbrev pub post_from : (word : ℕ) → Post
 post_from word = record { caller = word / 0x1_0000_0000 % 0x1_0000_0000; command = word / 0x1_0000 % 0x1_0000; «data» = word % 0x1_0000 }
 
-abbrev pub state_from : (word : ℕ) → PlaceState
-state_from word =
+abbrev pub place_from : (word : ℕ) → Place
+place_from word =
     cond (eqb (word / 0x1_0000_0000) 0) Free
     (cond (eqb (word / 0x1_0000_0000) 1) Waiting
     (Ready (word % 0x1_0000_0000)))
 
-abbrev pub place_from : (word : ℕ) → Place
-place_from word = place_with (state_from word)
-
-abbrev pub saved_from : (word : ℕ) → Descriptor
+abbrev pub saved_from : (word : ℕ) → Option Descriptor
 saved_from word =
-    cond (eqb (word % 2) 0) descriptor.Absent
-    (descriptor.Saved (word / 0x1_0000 % 0x1_0000) (word / 0x1_0000_0000 % 0x1_0000) (word / 0x1_0000_0000_0000 % 0x1_0000))
+    cond (eqb (word % 2) 0) None
+    (Some (record { part1 = word / 0x1_0000 % 0x1_0000; part2 = word / 0x1_0000_0000 % 0x1_0000; part3 = word / 0x1_0000_0000_0000 % 0x1_0000 }))
 
 abbrev pub interrupt_from : (word : ℕ) → Interrupt
 interrupt_from word = record { descriptor = saved_from word; delivery = eqb (word / 2 % 2) 1 }

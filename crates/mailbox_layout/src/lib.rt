@@ -1,12 +1,12 @@
 // The words of a mailbox's parts, and the parts of words. What stands where is told in specs/Layout.antt.
 #![tactic(auto)]
 
-ghost use Rattle.std.specs.Prelude.{◌≡◌, ◌≤◌};
-ghost use Rattle.mailbox_layout.specs.Layout.{bit_of, part_word, post_word, place_word, interrupt_word};
+ghost use Rattle.std.specs.Prelude.{◌≡◌};
+ghost use Rattle.mailbox_layout.specs.Layout.{part_word, post_word, place_word, interrupt_word};
 ghost use Rattle.mailbox_layout.specs.Layout.{phase_from, part_from, post_from, place_from, interrupt_from};
 
-use firmware::{Descriptor, Interrupt, Part};
-use mailbox::{Phase, Place, PlaceState, Post};
+use firmware::{Descriptor, Interrupt};
+use mailbox::{Phase, Place, Post};
 
 // Where each word stands. The first eight are one by one; then come the line, the places and the interrupts.
 
@@ -34,57 +34,52 @@ pub const INTERRUPTS: usize = 24;
 
 pub const WORDS: usize = 88;
 
-// To words.
+// To words. The parts are other crates' types, and so is the word: a crate may write `From` for its own types alone, so these are functions.
 
-fn bit(b: bool) -> u64
-    ensures value { result ≡ bit_of b }
-    ensures upper_bound { result ≤ 1 }
+pub fn part_word(part: Option<u16>) -> u64
+    ensures { result ≡ part_word part }
 {
-    if b { 1 } else { 0 }
-}
-
-pub fn part_word(p: Part) -> u64
-    ensures { result ≡ part_word p }
-{
-    match p {
-        Part::Absent => 0,
-        Part::Held(value) => 0x1_0000 + value as u64,
+    match part {
+        None => 0,
+        Some(value) => 0x1_0000 + u64::from(value),
     }
 }
 
-pub fn post_word(p: Post) -> u64
-    ensures { result ≡ post_word p }
+pub fn post_word(post: Post) -> u64
+    ensures { result ≡ post_word post }
 {
-    p.caller as u64 * 0x1_0000_0000 + p.command as u64 * 0x1_0000 + p.data as u64
+    u64::from(post.caller) * 0x1_0000_0000
+        + u64::from(post.command) * 0x1_0000
+        + u64::from(post.data)
 }
 
-pub fn place_word(p: Place) -> u64
-    ensures { result ≡ place_word p }
+pub fn place_word(place: Place) -> u64
+    ensures { result ≡ place_word place }
 {
-    let state = p.state;
-    match state {
-        PlaceState::Free => 0,
-        PlaceState::Waiting => 0x1_0000_0000,
-        PlaceState::Ready(word) => 0x2_0000_0000 + word as u64,
+    match place {
+        Place::Free => 0,
+        Place::Waiting => 0x1_0000_0000,
+        Place::Ready(word) => 0x2_0000_0000 + u64::from(word),
     }
 }
 
-pub fn interrupt_word(i: Interrupt) -> u64
-    ensures { result ≡ interrupt_word i }
+pub fn interrupt_word(interrupt: Interrupt) -> u64
+    ensures { result ≡ interrupt_word interrupt }
 {
-    let on = bit(i.delivery);
-    let descriptor = i.descriptor;
-    match descriptor {
-        Descriptor::Absent => on * 2,
-        Descriptor::Saved {
-            part1,
-            part2,
-            part3,
-        } => {
-            1 + on * 2
-                + part1 as u64 * 0x1_0000
-                + part2 as u64 * 0x1_0000_0000
-                + part3 as u64 * 0x1_0000_0000_0000
+    let on = u64::from(interrupt.delivery) * 2;
+    match interrupt.descriptor {
+        None => on,
+        Some(
+            Descriptor {
+                part1,
+                part2,
+                part3,
+            },
+        ) => {
+            1 + on
+                + u64::from(part1) * 0x1_0000
+                + u64::from(part2) * 0x1_0000_0000
+                + u64::from(part3) * 0x1_0000_0000_0000
         }
     }
 }
@@ -94,31 +89,22 @@ pub fn interrupt_word(i: Interrupt) -> u64
 pub fn phase_from(phase: u64, caller: u64, word: u64) -> Phase
     ensures { result ≡ phase_from phase caller word }
 {
-    let holder = (caller % 0x1_0000_0000) as u32;
-    let held = (word % 0x1_0000_0000) as u32;
-    if phase == 0 {
-        return Phase::Idle;
-    }
-    if phase == 1 {
-        Phase::Command {
-            caller: holder,
-            word: held,
-        }
-    } else {
-        Phase::Response {
-            caller: holder,
-            word: held,
-        }
+    let caller = (caller % 0x1_0000_0000) as u32;
+    let word = (word % 0x1_0000_0000) as u32;
+    match phase {
+        0 => Phase::Idle,
+        1 => Phase::Command { caller, word },
+        _ => Phase::Response { caller, word },
     }
 }
 
-pub fn part_from(word: u64) -> Part
+pub fn part_from(word: u64) -> Option<u16>
     ensures { result ≡ part_from word }
 {
     if word / 0x1_0000 == 0 {
-        Part::Absent
+        None
     } else {
-        Part::Held((word % 0x1_0000) as u16)
+        Some((word % 0x1_0000) as u16)
     }
 }
 
@@ -135,38 +121,23 @@ pub fn post_from(word: u64) -> Post
 pub fn place_from(word: u64) -> Place
     ensures { result ≡ place_from word }
 {
-    let tag = word / 0x1_0000_0000;
-    if tag == 0 {
-        return Place {
-            state: PlaceState::Free,
-        };
-    }
-    if tag == 1 {
-        return Place {
-            state: PlaceState::Waiting,
-        };
-    }
-    Place {
-        state: PlaceState::Ready((word % 0x1_0000_0000) as u32),
+    match word / 0x1_0000_0000 {
+        0 => Place::Free,
+        1 => Place::Waiting,
+        _ => Place::Ready((word % 0x1_0000_0000) as u32),
     }
 }
 
 pub fn interrupt_from(word: u64) -> Interrupt
     ensures { result ≡ interrupt_from word }
 {
-    let on = word / 2 % 2 == 1;
-    if word % 2 == 0 {
-        return Interrupt {
-            descriptor: Descriptor::Absent,
-            delivery: on,
-        };
-    }
+    let descriptor = Descriptor {
+        part1: (word / 0x1_0000 % 0x1_0000) as u16,
+        part2: (word / 0x1_0000_0000 % 0x1_0000) as u16,
+        part3: (word / 0x1_0000_0000_0000 % 0x1_0000) as u16,
+    };
     Interrupt {
-        descriptor: Descriptor::Saved {
-            part1: (word / 0x1_0000 % 0x1_0000) as u16,
-            part2: (word / 0x1_0000_0000 % 0x1_0000) as u16,
-            part3: (word / 0x1_0000_0000_0000 % 0x1_0000) as u16,
-        },
-        delivery: on,
+        descriptor: (word % 2 == 1).then_some(descriptor),
+        delivery: word / 2 % 2 == 1,
     }
 }

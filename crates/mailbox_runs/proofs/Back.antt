@@ -1,26 +1,24 @@
 -- What is packed is read back, with any words behind it. Assumes nothing.
 use mathlib.Core.Bool.{Bool, true, false}
-use mathlib.Core.Path.{◌≡◌, refl, sym, ap, ◌∙◌}
+use mathlib.Core.Path.{◌≡◌, refl, ap, ◌∙◌}
 use mathlib.Core.List.{List, ◌++◌}
 use Prim.Native.Nat.{ℕ, ◌+◌, ◌*◌, ◌-◌, ◌/◌, ◌%◌, ◌≤◌, ◌<◌}
 use native.Mathlib.Omega.{arith}
 use lib.ListN.{get_or, get_or-append}
 use lib.Dec.{eqb}
 use Rattle.firmware.specs.Rules.{nothing}
-use Rattle.firmware.specs.declared.Part.{Part}
-use Rattle.firmware.specs.declared.Part.TheVariants as part
+use Rattle.std.specs.Prelude.{Option, Some, None}
 use Rattle.firmware.specs.declared.Descriptor.{Descriptor}
-use Rattle.firmware.specs.declared.Descriptor.TheVariants as descriptor
 use Rattle.mailbox.specs.declared.Phase.{Phase}
 use Rattle.mailbox.specs.declared.Phase.TheVariants.{Idle, Command, Response}
-use Rattle.mailbox.specs.declared.PlaceState.{PlaceState}
-use Rattle.mailbox.specs.declared.PlaceState.TheVariants.{Free, Waiting, Ready}
+use Rattle.mailbox.specs.declared.Place.{Place}
+use Rattle.mailbox.specs.declared.Place.TheVariants.{Free, Waiting, Ready}
 use Rattle.mailbox.specs.declared.Post.{Post}
 use Rattle.mailbox.specs.declared.Mailbox.{Mailbox}
-use Rattle.mailbox.specs.Machine.{no_post, place_with}
-use Rattle.mailbox_layout.specs.Layout.{up_to, bit_of, phase_word, caller_word, word_word, part_word, post_word, state_word, place_word, saved_word, interrupt_word, head_of, pack_of}
-use Rattle.mailbox_layout.specs.Layout.{phase_from, part_from, post_from, state_from, place_from, saved_from, interrupt_from, post_at, place_at, interrupt_at, firmware_from, unpack_of}
-use Rattle.mailbox_runs.specs.Typed.{TypedPart, TypedDescriptor, TypedInterrupt, TypedPost, TypedState, TypedPlace, TypedPhase, Typed}
+use Rattle.mailbox.specs.Machine.{no_post}
+use Rattle.mailbox_layout.specs.Layout.{up_to, bit_of, phase_word, caller_word, word_word, part_word, post_word, place_word, saved_word, interrupt_word, head_of, pack_of}
+use Rattle.mailbox_layout.specs.Layout.{phase_from, part_from, post_from, place_from, saved_from, interrupt_from, post_at, place_at, interrupt_at, firmware_from, unpack_of}
+use Rattle.mailbox_runs.specs.Typed.{TypedPart, TypedDescriptor, TypedInterrupt, TypedPost, TypedPlace, TypedPhase, Typed}
 use Rattle.mailbox_layout.proofs.LayoutLaws.{up_all, pack_long, pack_head, pack_post, pack_place, pack_interrupt}
 use Rattle.mailbox_runs.proofs.TypedLaws.{all_at, whole}
 
@@ -36,9 +34,9 @@ bit_small false = omega arith
 low : (n x y : ℕ) → x < 0x1_0000 → n ≡ x + y * 0x1_0000 → n % 0x1_0000 ≡ x
 low n x y p e = omega arith
 
-part_back_lem : (p : Part) → TypedPart p → part_from (part_word p) ≡ p
-part_back_lem part.Absent fits = refl
-part_back_lem (part.Held v) fits =
+part_back_lem : (p : Option ℕ) → TypedPart p → part_from (part_word p) ≡ p
+part_back_lem None fits = refl
+part_back_lem (Some v) fits =
     let one : (0x1_0000 + v) / 0x1_0000 ≡ 1 = omega arith in
     let rest : (0x1_0000 + v) % 0x1_0000 ≡ v = omega arith in
     rw (one, rest)
@@ -58,10 +56,10 @@ post_back_lem p fits =
     cut : (x : ℕ) → x < 0x1_0000_0000 → x % 0x1_0000_0000 ≡ x
     cut x h = omega arith
 
-state_back : (s : PlaceState) → TypedState s → state_from (state_word s) ≡ s
-state_back Free fits = refl
-state_back Waiting fits = refl
-state_back (Ready w) fits =
+place_back : (s : Place) → TypedPlace s → place_from (place_word s) ≡ s
+place_back Free fits = refl
+place_back Waiting fits = refl
+place_back (Ready w) fits =
     let two : (0x2_0000_0000 + w) / 0x1_0000_0000 ≡ 2 = omega arith in
     let rest : (0x2_0000_0000 + w) % 0x1_0000_0000 ≡ w = omega arith in
     rw (two, rest)
@@ -77,23 +75,23 @@ phase_back (Response c w) fits =
     let b : w % 0x1_0000_0000 ≡ w = let h : w < 0x1_0000_0000 = fits.1 in omega arith in
     rw (a, b)
 
-delivery_back : (b : Bool) (d : Descriptor) → eqb (saved_word b d / 2 % 2) 1 ≡ b
-delivery_back b descriptor.Absent = let s = bit_small b in bit_back b (bit_of b * 2 / 2 % 2) (omega arith)
-delivery_back b (descriptor.Saved one two three) = let s = bit_small b in bit_back b (saved_word b (descriptor.Saved one two three) / 2 % 2) (omega arith)
+delivery_back : (b : Bool) (d : Option Descriptor) → eqb (saved_word b d / 2 % 2) 1 ≡ b
+delivery_back b None = let s = bit_small b in bit_back b (bit_of b * 2 / 2 % 2) (omega arith)
+delivery_back b (Some d) = let s = bit_small b in bit_back b (saved_word b (Some d) / 2 % 2) (omega arith)
 
-saved_back : (b : Bool) (d : Descriptor) → TypedDescriptor d → saved_from (saved_word b d) ≡ d
-saved_back b descriptor.Absent fits = let even : bit_of b * 2 % 2 ≡ 0 = omega arith in rw even
-saved_back b (descriptor.Saved one two three) fits =
-    let w = saved_word b (descriptor.Saved one two three) in
+saved_back : (b : Bool) (d : Option Descriptor) → TypedDescriptor d → saved_from (saved_word b d) ≡ d
+saved_back b None fits = let even : bit_of b * 2 % 2 ≡ 0 = omega arith in rw even
+saved_back b (Some d) fits =
+    let w = saved_word b (Some d) in
     let s = bit_small b in
-    let f1 : one < 0x1_0000 = fits.0 in
-    let f2 : two < 0x1_0000 = fits.1 in
-    let f3 : three < 0x1_0000 = fits.2 in
+    let f1 : d.part1 < 0x1_0000 = fits.0 in
+    let f2 : d.part2 < 0x1_0000 = fits.1 in
+    let f3 : d.part3 < 0x1_0000 = fits.2 in
     let odd : w % 2 ≡ 1 = omega arith in
-    let q1 : w / 0x1_0000 ≡ one + (two + three * 0x1_0000) * 0x1_0000 = omega arith in
-    let q2 : w / 0x1_0000_0000 ≡ two + three * 0x1_0000 = omega arith in
-    let q3 : w / 0x1_0000_0000_0000 ≡ three + 0 * 0x1_0000 = omega arith in
-    rw (odd, low (w / 0x1_0000) one (two + three * 0x1_0000) f1 q1, low (w / 0x1_0000_0000) two three f2 q2, low (w / 0x1_0000_0000_0000) three 0 f3 q3)
+    let q1 : w / 0x1_0000 ≡ d.part1 + (d.part2 + d.part3 * 0x1_0000) * 0x1_0000 = omega arith in
+    let q2 : w / 0x1_0000_0000 ≡ d.part2 + d.part3 * 0x1_0000 = omega arith in
+    let q3 : w / 0x1_0000_0000_0000 ≡ d.part3 + 0 * 0x1_0000 = omega arith in
+    rw (odd, low (w / 0x1_0000) d.part1 (d.part2 + d.part3 * 0x1_0000) f1 q1, low (w / 0x1_0000_0000) d.part2 d.part3 f2 q2, low (w / 0x1_0000_0000_0000) d.part3 0 f3 q3)
 
 -- ---- the whole
 module _ (m : Mailbox) (k : Typed m) (behind : List ℕ) where
@@ -112,11 +110,11 @@ module _ (m : Mailbox) (k : Typed m) (behind : List ℕ) where
       let w = word_of (8 + i) (omega arith) ∙ (pack_post m (whole m k) (8 + i) (omega arith) (omega arith) ∙ ap (λ (j : ℕ). post_word (get_or m.line j no_post)) e) in
       ap post_from w ∙ post_back_lem (get_or m.line i no_post) (all_at TypedPost m.line i no_post k.line (omega arith, omega arith, omega arith))
 
-  places_back : (i : ℕ) → i < 8 → place_at ws i ≡ get_or m.places i (place_with Free)
+  places_back : (i : ℕ) → i < 8 → place_at ws i ≡ get_or m.places i Free
   places_back i p =
       let e : 16 + i - 16 ≡ i = omega arith in
-      let w = word_of (16 + i) (omega arith) ∙ (pack_place m (whole m k) (16 + i) (omega arith) (omega arith) ∙ ap (λ (j : ℕ). place_word (get_or m.places j (place_with Free))) e) in
-      ap place_from w ∙ ap place_with (state_back (get_or m.places i (place_with Free)).state (all_at TypedPlace m.places i (place_with Free) k.places tt))
+      let w = word_of (16 + i) (omega arith) ∙ (pack_place m (whole m k) (16 + i) (omega arith) (omega arith) ∙ ap (λ (j : ℕ). place_word (get_or m.places j Free)) e) in
+      ap place_from w ∙ place_back (get_or m.places i Free) (all_at TypedPlace m.places i Free k.places tt)
 
   interrupts_back : (i : ℕ) → i < 64 → interrupt_at ws i ≡ get_or m.firmware.interrupts i nothing
   interrupts_back i p =
@@ -147,6 +145,6 @@ module _ (m : Mailbox) (k : Typed m) (behind : List ℕ) where
       let register : phase_from (get_or ws 0 0) (get_or ws 1 0) (get_or ws 2 0) ≡ m.register = rw (t, c, w) (phase_back m.register k.register) in
       let count : get_or ws 3 0 ≡ m.count = head_of_lem 3 (omega arith) in
       let line : up_to (post_at ws) 8 ≡ m.line = up_all (post_at ws) m.line no_post 8 k.line_long line_back in
-      let places : up_to (place_at ws) 8 ≡ m.places = up_all (place_at ws) m.places (place_with Free) 8 k.places_long places_back in
+      let places : up_to (place_at ws) 8 ≡ m.places = up_all (place_at ws) m.places Free 8 k.places_long places_back in
       let firmware = firmware_back in
       λ j. record { register = register j; count = count j; line = line j; places = places j; firmware = firmware j }

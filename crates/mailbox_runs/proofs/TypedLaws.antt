@@ -2,7 +2,7 @@
 use mathlib.Core.Bool.{Bool, true, false, cond, not}
 use mathlib.Core.List.{List, [], ◌∷◌, ◌++◌}
 use mathlib.Core.Path.{◌≡◌, refl, ◌∙◌}
-use Prim.Native.Nat.{ℕ, zero, suc, ◌+◌, ◌/◌, ◌%◌, ◌<◌, ◌≤◌}
+use Prim.Native.Nat.{ℕ, zero, suc, ◌/◌, ◌%◌, ◌<◌, ◌≤◌}
 use native.Mathlib.Omega.{arith}
 use lib.ListN.{length, get_or, set, drop, replicate, length-set}
 use lib.Dec.{eqb, leb}
@@ -12,23 +12,21 @@ use Rattle.reply.specs.Scan.{All}
 use Rattle.firmware.specs.Word.{command_in, data_in, word_of}
 use Rattle.firmware.specs.Rules.{nothing, answers, interface_off, id_in, kept_for, holding, settled_of, when_saved, delivering, delivery_of, rule_of, run_of}
 use Rattle.firmware.proofs.Responses.{either}
-use Rattle.firmware.specs.declared.Part.{Part}
-use Rattle.firmware.specs.declared.Part.TheVariants as part
+use Rattle.std.specs.Prelude.{Option, Some, None}
 use Rattle.firmware.specs.declared.Descriptor.{Descriptor}
-use Rattle.firmware.specs.declared.Descriptor.TheVariants as descriptor
 use Rattle.firmware.specs.declared.Firmware.{Firmware}
 use Rattle.firmware.specs.declared.Ran.{Ran}
 use Rattle.mailbox.specs.declared.Phase.{Phase}
 use Rattle.mailbox.specs.declared.Phase.TheVariants.{Idle, Command, Response}
-use Rattle.mailbox.specs.declared.PlaceState.{PlaceState}
-use Rattle.mailbox.specs.declared.PlaceState.TheVariants.{Free, Waiting, Ready}
+use Rattle.mailbox.specs.declared.Place.{Place}
+use Rattle.mailbox.specs.declared.Place.TheVariants.{Free, Waiting, Ready}
 use Rattle.mailbox.specs.declared.Mailbox.{Mailbox}
-use Rattle.mailbox.specs.Machine.{post_by, no_post, place_with, state_of, is_free, fresh_mailbox, joined, shifted, with_oldest, freed}
+use Rattle.mailbox.specs.Machine.{post_by, no_post, state_of, is_free, fresh_mailbox, joined, shifted, with_oldest, freed}
 use Rattle.mailbox.specs.Consistent.{consistent_of}
 use Rattle.mailbox_calls.specs.Calls.{After, after, leaves, loaded_from, load_of, turned_from, turn_of, unloaded_from, unload_of, taken_from, take_of, post_of}
 use Rattle.mailbox.proofs.LineLaws.{shifted_long}
 use Rattle.mailbox_layout.proofs.LayoutLaws.{Whole}
-use Rattle.mailbox_runs.specs.Typed.{TypedPart, TypedInterrupt, TypedFirmware, TypedPost, TypedState, TypedPlace, TypedPhase, Typed}
+use Rattle.mailbox_runs.specs.Typed.{TypedPart, TypedInterrupt, TypedFirmware, TypedPost, TypedPlace, TypedPhase, Typed}
 
 -- ---- all of a list
 module _ {A : Type 0} (P : A → Type 0) where
@@ -66,12 +64,12 @@ module _ (f : Firmware) (k : TypedFirmware f) where
   answers_typed : (g : Firmware) → TypedFirmware g → (s c d : ℕ) → TypedRan (answers g s c d)
   answers_typed g t s c d = (t, word_small 1 s c d)
 
-  settled_typed : (one two three : Part) → TypedPart one → TypedPart two → TypedPart three → TypedFirmware (settled_of (holding f one two three))
+  settled_typed : (one two three : Option ℕ) → TypedPart one → TypedPart two → TypedPart three → TypedFirmware (settled_of (holding f one two three))
   unfolding settled_of
-  settled_typed part.Absent two three a b c = record { part1 = a; part2 = b; part3 = c; interrupts_long = k.interrupts_long; interrupts = k.interrupts }
-  settled_typed (part.Held x) part.Absent three a b c = record { part1 = a; part2 = b; part3 = c; interrupts_long = k.interrupts_long; interrupts = k.interrupts }
-  settled_typed (part.Held x) (part.Held y) part.Absent a b c = record { part1 = a; part2 = b; part3 = c; interrupts_long = k.interrupts_long; interrupts = k.interrupts }
-  settled_typed (part.Held x) (part.Held y) (part.Held z) a b c = record {
+  settled_typed None two three a b c = record { part1 = a; part2 = b; part3 = c; interrupts_long = k.interrupts_long; interrupts = k.interrupts }
+  settled_typed (Some x) None three a b c = record { part1 = a; part2 = b; part3 = c; interrupts_long = k.interrupts_long; interrupts = k.interrupts }
+  settled_typed (Some x) (Some y) None a b c = record { part1 = a; part2 = b; part3 = c; interrupts_long = k.interrupts_long; interrupts = k.interrupts }
+  settled_typed (Some x) (Some y) (Some z) a b c = record {
     part1 = tt;
     part2 = tt;
     part3 = tt;
@@ -95,9 +93,9 @@ module _ (f : Firmware) (k : TypedFirmware f) where
         interrupts = all_set TypedInterrupt f.interrupts _ _ k.interrupts (all_at TypedInterrupt f.interrupts (id_in d) nothing k.interrupts tt);
       }
 
-      saved : (e : Descriptor) → TypedRan (when_saved e (answers f 2 0x85 d) (answers (delivering f d) 0 0x85 d))
-      saved descriptor.Absent = answers_typed f k 2 0x85 d
-      saved (descriptor.Saved one two three) = answers_typed (delivering f d) set_typed 0 0x85 d
+      saved : (e : Option Descriptor) → TypedRan (when_saved e (answers f 2 0x85 d) (answers (delivering f d) 0 0x85 d))
+      saved None = answers_typed f k 2 0x85 d
+      saved (Some kept) = answers_typed (delivering f d) set_typed 0 0x85 d
 
   rule_typed : (c d : ℕ) → d < 0x1_0000 → TypedRan (rule_of f c d)
   unfolding rule_of
@@ -105,9 +103,9 @@ module _ (f : Firmware) (k : TypedFirmware f) where
       either TypedRan (eqb c 0x80) _ _
       (λ _. answers_typed (interface_off f) (record { part1 = k.part1; part2 = k.part2; part3 = k.part3; interrupts_long = k.interrupts_long; interrupts = k.interrupts }) 0 c d)
       (λ _. either TypedRan (eqb c 0x81) _ _ (λ _. answers_typed f k 0 c (cond f.interface 1 0))
-      (λ _. either TypedRan (eqb c 0x82) _ _ (λ _. answers_typed _ (settled_typed (part.Held d) f.part2 f.part3 h k.part2 k.part3) 0 c d)
-      (λ _. either TypedRan (eqb c 0x83) _ _ (λ _. answers_typed _ (settled_typed f.part1 (part.Held d) f.part3 k.part1 h k.part3) 0 c d)
-      (λ _. either TypedRan (eqb c 0x84) _ _ (λ _. answers_typed _ (settled_typed f.part1 f.part2 (part.Held d) k.part1 k.part2 h) 0 c d)
+      (λ _. either TypedRan (eqb c 0x82) _ _ (λ _. answers_typed _ (settled_typed (Some d) f.part2 f.part3 h k.part2 k.part3) 0 c d)
+      (λ _. either TypedRan (eqb c 0x83) _ _ (λ _. answers_typed _ (settled_typed f.part1 (Some d) f.part3 k.part1 h k.part3) 0 c d)
+      (λ _. either TypedRan (eqb c 0x84) _ _ (λ _. answers_typed _ (settled_typed f.part1 f.part2 (Some d) k.part1 k.part2 h) 0 c d)
       (λ _. either TypedRan (eqb c 0x85) _ _ (λ _. delivery_typed d) (λ _. answers_typed f k 1 c d))))))
 
   run_typed : (w : ℕ) → TypedRan (run_of f w)
@@ -120,7 +118,7 @@ fresh_typed = record {
   line_long = refl;
   line = all_same TypedPost 8 no_post (omega arith, omega arith, omega arith);
   places_long = refl;
-  places = all_same TypedPlace 8 (place_with Free) tt;
+  places = all_same TypedPlace 8 Free tt;
   firmware = record { part1 = tt; part2 = tt; part3 = tt; interrupts_long = refl; interrupts = all_same TypedInterrupt 64 nothing tt };
 }
 
@@ -130,8 +128,8 @@ module _ (m : Mailbox) (k : Typed m) where
   past_check true n x h = h refl
   past_check false n x h = k
 
-  with_place : (c : ℕ) (s : PlaceState) → TypedState s → (length (set m.places c (place_with s)) ≡ 8) × All TypedPlace (set m.places c (place_with s))
-  with_place c s t = (length-set m.places c (place_with s) ∙ k.places_long, all_set TypedPlace m.places c (place_with s) k.places t)
+  with_place : (c : ℕ) (s : Place) → TypedPlace s → (length (set m.places c s) ≡ 8) × All TypedPlace (set m.places c s)
+  with_place c s t = (length-set m.places c s ∙ k.places_long, all_set TypedPlace m.places c s k.places t)
 
   joined_typed : (c n d : ℕ) → c ≤ 7 → n ≤ 0x3FF → d < 0x1_0000 → Typed (joined m c n d)
   joined_typed c n d low fit small =
@@ -208,7 +206,7 @@ module _ (m : Mailbox) (k : Typed m) where
   unfolding take_of
   take_typed c = past_check (consistent_of m) 5 _ (λ _. past_check (leb c 7) 9 _ (λ _. go (state_of m c)))
     where
-      go : (s : PlaceState) → Typed (leaves m (taken_from m c s)).mailbox
+      go : (s : Place) → Typed (leaves m (taken_from m c s)).mailbox
       go Free = k
       go Waiting = k
       go (Ready w) = freed_typed c

@@ -1,27 +1,23 @@
 -- A mailbox whose numbers have the widths of their types and whose arrays have their lengths: what every mailbox of the code is. Assumes nothing: these are definitions.
-use Rattle.std.specs.Prelude.{◌≡◌, ◌<◌, length}
+use Rattle.std.specs.Prelude.{◌≡◌, ◌<◌, length, ℕ, Option, Some, None}
 use Rattle.reply.specs.Scan.{All}
-use Rattle.firmware.specs.declared.Part.{Part}
-use Rattle.firmware.specs.declared.Part.TheVariants as part
 use Rattle.firmware.specs.declared.Descriptor.{Descriptor}
-use Rattle.firmware.specs.declared.Descriptor.TheVariants as descriptor
 use Rattle.firmware.specs.declared.Interrupt.{Interrupt}
 use Rattle.firmware.specs.declared.Firmware.{Firmware}
 use Rattle.mailbox.specs.declared.Phase.{Phase}
 use Rattle.mailbox.specs.declared.Phase.TheVariants.{Idle, Command, Response}
-use Rattle.mailbox.specs.declared.PlaceState.{PlaceState}
-use Rattle.mailbox.specs.declared.PlaceState.TheVariants.{Free, Waiting, Ready}
 use Rattle.mailbox.specs.declared.Place.{Place}
+use Rattle.mailbox.specs.declared.Place.TheVariants.{Free, Waiting, Ready}
 use Rattle.mailbox.specs.declared.Post.{Post}
 use Rattle.mailbox.specs.declared.Mailbox.{Mailbox}
 
-abbrev pub TypedPart : (p : Part) → Type 0
-TypedPart part.Absent = Unit {0}
-TypedPart (part.Held value) = value < 0x1_0000
+abbrev pub TypedPart : (p : Option ℕ) → Type 0
+TypedPart None = Unit {0}
+TypedPart (Some value) = value < 0x1_0000
 
-abbrev pub TypedDescriptor : (d : Descriptor) → Type 0
-TypedDescriptor descriptor.Absent = Unit {0}
-TypedDescriptor (descriptor.Saved one two three) = (one < 0x1_0000) × (two < 0x1_0000) × (three < 0x1_0000)
+abbrev pub TypedDescriptor : (d : Option Descriptor) → Type 0
+TypedDescriptor None = Unit {0}
+TypedDescriptor (Some d) = (d.part1 < 0x1_0000) × (d.part2 < 0x1_0000) × (d.part3 < 0x1_0000)
 
 abbrev pub TypedInterrupt : (i : Interrupt) → Type 0
 TypedInterrupt i = TypedDescriptor i.descriptor
@@ -36,13 +32,10 @@ pub record TypedFirmware (f : Firmware) : Type 0 where
 abbrev pub TypedPost : (p : Post) → Type 0
 TypedPost p = (p.caller < 0x1_0000_0000) × (p.command < 0x1_0000) × (p.«data» < 0x1_0000)
 
-abbrev pub TypedState : (state : PlaceState) → Type 0
-TypedState Free = Unit {0}
-TypedState Waiting = Unit {0}
-TypedState (Ready word) = word < 0x1_0000_0000
-
 abbrev pub TypedPlace : (p : Place) → Type 0
-TypedPlace p = TypedState p.state
+TypedPlace Free = Unit {0}
+TypedPlace Waiting = Unit {0}
+TypedPlace (Ready word) = word < 0x1_0000_0000
 
 abbrev pub TypedPhase : (register : Phase) → Type 0
 TypedPhase Idle = Unit {0}

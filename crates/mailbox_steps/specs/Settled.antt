@@ -1,11 +1,10 @@
 -- No two answers of a step tell the same, so two results that fit one promise are equal: stated. The proofs stand in proofs/Settled.antt.
-use Rattle.std.specs.Prelude.{◌≡◌, Bool}
-use Rattle.reply.specs.Reply.{Reply, OneToOne}
-use Rattle.mailbox_calls.specs.Calls.{After}
-use Rattle.mailbox_steps.specs.declared.AfterStep.{AfterStep}
-use Rattle.mailbox_steps.specs.Told.{told_step, told_after_step}
+use Rattle.std.specs.Prelude.{◌≡◌, Bool, Result}
+use Rattle.reply.specs.Reply.{Reply, OneToOne, told_alone}
+use Rattle.reply.specs.declared.Refusal.{Refusal}
+use Rattle.mailbox_calls.specs.Calls.{After, told_after}
 
 pub record Settled : Type 0 where
-  pub step : OneToOne told_step
+  pub step : OneToOne (told_alone {A = Bool})
   -- the same with the mailbox beside the answer
-  pub after_step : (promised : After (Reply Bool)) (x y : AfterStep) → told_after_step x ≡ promised → told_after_step y ≡ promised → x ≡ y
+  pub after_step : (promised : After (Reply Bool)) (x y : After (Result Bool Refusal)) → told_after x ≡ promised → told_after y ≡ promised → x ≡ y

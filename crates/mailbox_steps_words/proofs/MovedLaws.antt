@@ -2,83 +2,35 @@
 use mathlib.Core.Bool.{true}
 use mathlib.Core.Path.{◌≡◌, refl, ap, ◌∙◌}
 use mathlib.Core.List.{List, [], ◌∷◌}
-use Prim.Native.Nat.{ℕ, zero, suc, ◌+◌, ◌-◌, ◌≤◌, ◌<◌}
+use Prim.Native.Nat.{ℕ, ◌+◌, ◌-◌, ◌≤◌}
 use native.Mathlib.Omega.{arith}
 use lib.ListN.{length, get_or, set, drop, length-set}
-use lib.Dec.{ltb}
-use borrow.Author.Tests.{ltb-true}
+use lib.Seq.{paste}
 use Rattle.lent.specs.Lent.{words_for}
-use Rattle.mailbox.specs.declared.PlaceState.TheVariants.{Ready}
+use Rattle.mailbox.specs.declared.Place.TheVariants.{Ready}
 use Rattle.mailbox.specs.declared.Post.{Post}
 use Rattle.mailbox.specs.declared.Mailbox.{Mailbox}
 use Rattle.mailbox.proofs.LineLaws.{shifted_long}
-use Rattle.mailbox.specs.Machine.{no_post, place_with, command_word, shifted, with_oldest, handed_over}
+use Rattle.mailbox.specs.Machine.{no_post, command_word, shifted, with_oldest, handed_over}
 use Rattle.mailbox_layout.specs.Layout.{up_to, place_word, post_from, head_of, pack_of, unpack_of}
 use Rattle.mailbox_held.specs.Held.{held_in}
 use Rattle.mailbox_layout.proofs.LayoutLaws.{Whole, unpacked_whole}
-use Rattle.mailbox_steps_words.specs.Moved.{moved_up, last_moved}
 use Rattle.mailbox_words.proofs.StoredLaws.{laid_of, place_in, held_laid, laid_words}
 
 -- ---- on a mailbox that is laid out
 module _ (m : Mailbox) (w : Whole m) (behind : List ℕ) where
   laid_handed : (caller word : ℕ) → caller ≤ 7
-      → set (set (set (set (laid_of m behind) 0 0) 1 0) 2 0) (16 + caller) (place_word (place_with (Ready word))) ≡ laid_of (handed_over m caller word) behind
+      → set (set (set (set (laid_of m behind) 0 0) 1 0) 2 0) (16 + caller) (place_word (Ready word)) ≡ laid_of (handed_over m caller word) behind
   laid_handed caller word q =
       let long = w.places_long in
-      place_in (head_of (handed_over m caller word)) m.line m.places m.firmware.interrupts behind caller refl w.line_long (place_with (Ready word)) (omega arith)
+      place_in (head_of (handed_over m caller word)) m.line m.places m.firmware.interrupts behind caller refl w.line_long (Ready word) (omega arith)
 
--- ---- the oldest post taken out of the line: the seven behind it move up, and the last place is empty
--- the post's command in the register
-abbrev pub begun : (caller word : ℕ) → List ℕ → List ℕ
-begun caller word ws = set (set (set ws 0 1) 1 caller) 2 word
+-- ---- the oldest post taken out of the line: the seven behind it move up, and the last slot is empty
+abbrev moved : List ℕ → List ℕ
+moved ws = paste ws 8 (drop 9 ws) 7
 
--- that, one post less in line, and n words of the line moved up
-abbrev pub moved : ℕ → (caller word : ℕ) → List ℕ → List ℕ
-moved zero caller word ws = set (begun caller word ws) 3 (get_or (begun caller word ws) 3 0 - 1)
-moved (suc n) caller word ws = moved_up (8 + n) (moved n caller word ws)
-
-abbrev pub advanced : (caller word : ℕ) → List ℕ → List ℕ
-advanced caller word ws = last_moved (moved 3 caller word ws)
-
--- no store changes how many words there are
-last_long : (ws : List ℕ) → length (last_moved ws) ≡ length ws
-last_long ws = length-set _ 15 0 ∙ (length-set _ 14 _ ∙ (length-set _ 13 _ ∙ (length-set _ 12 _ ∙ length-set ws 11 _)))
-
-module _ (caller word : ℕ) (ws : List ℕ) where
-  begun_long : length (begun caller word ws) ≡ length ws
-  begun_long = length-set (set (set ws 0 1) 1 caller) 2 word ∙ (length-set (set ws 0 1) 1 caller ∙ length-set ws 0 1)
-
-  moved_long : (n : ℕ) → length (moved n caller word ws) ≡ length ws
-  moved_long zero = length-set (begun caller word ws) 3 (get_or (begun caller word ws) 3 0 - 1) ∙ begun_long
-  moved_long (suc n) = length-set (moved n caller word ws) (8 + n) (get_or (moved n caller word ws) (8 + n + 1) 0) ∙ moved_long n
-
-  pub advanced_long : length (advanced caller word ws) ≡ length ws
-  advanced_long = last_long (moved 3 caller word ws) ∙ moved_long 3
-
-  module _ (long : 88 ≤ length ws) (i : ℕ) (p : ltb i 88 ≡ true) where
-    below : (l : List ℕ) → length l ≡ length ws → i < length l
-    below l e = let q : i < 88 = ltb-true i 88 p in omega arith
-
-    pub in_first : i < length (set ws 0 1)
-    in_first = below (set ws 0 1) (length-set ws 0 1)
-
-    pub in_second : i < length (set (set ws 0 1) 1 caller)
-    in_second = below (set (set ws 0 1) 1 caller) (length-set (set ws 0 1) 1 caller ∙ length-set ws 0 1)
-
-    pub in_begun : i < length (begun caller word ws)
-    in_begun = below (begun caller word ws) begun_long
-
-    pub in_moved : (n : ℕ) → i < length (moved n caller word ws)
-    in_moved n = below (moved n caller word ws) (moved_long n)
-
-fourth_kept : (ws : List ℕ) (a b c : ℕ) → get_or (set (set (set ws 0 a) 1 b) 2 c) 3 0 ≡ get_or ws 3 0
-fourth_kept [] a b c = refl
-fourth_kept (x ∷ []) a b c = refl
-fourth_kept (x ∷ y ∷ []) a b c = refl
-fourth_kept (x ∷ y ∷ z ∷ ws) a b c = refl
-
-pub less_one : (ws : List ℕ) (a b c : ℕ) → 0 < get_or ws 3 0 → 1 ≤ get_or (set (set (set ws 0 a) 1 b) 2 c) 3 0
-less_one ws a b c p = rw (fourth_kept ws a b c) p
+abbrev advanced : (caller word : ℕ) → List ℕ → List ℕ
+advanced caller word ws = set (moved (set (set (set (set ws 3 (get_or ws 3 0 - 1)) 0 1) 1 caller) 2 word)) 15 0
 
 -- the mailbox with this line, in all else the same
 abbrev lined : Mailbox → List Post → Mailbox
@@ -126,10 +78,10 @@ module _ (ws : List ℕ) (h : held_in ws ≡ true) where
       laid_down (with_oldest m) _ (record { line_long = shifted_long m.line w.line_long; places_long = w.places_long; interrupts_long = w.interrupts_long })
       (ap (advanced caller word) (held_laid ws h) ∙ eight_moved m behind caller word m.line w.line_long (p ∙ ap (λ (x : Post). x.caller) oldest) (q ∙ ap command_word oldest))
 
-  pub hand_over_words : (caller word place : ℕ) → caller ≤ 7 → place ≡ place_word (place_with (Ready word))
+  pub hand_over_words : (caller word place : ℕ) → caller ≤ 7 → place ≡ place_word (Ready word)
       → set (set (set (set ws 0 0) 1 0) 2 0) (16 + caller) place ≡ words_for (pack_of (handed_over (unpack_of ws) caller word)) ws
   hand_over_words caller word place p e =
       let w = whole in
       laid_down (handed_over m caller word) _
-      (record { line_long = w.line_long; places_long = length-set m.places caller (place_with (Ready word)) ∙ w.places_long; interrupts_long = w.interrupts_long })
+      (record { line_long = w.line_long; places_long = length-set m.places caller (Ready word) ∙ w.places_long; interrupts_long = w.interrupts_long })
       ((λ i. set (set (set (set (held_laid ws h i) 0 0) 1 0) 2 0) (16 + caller) (e i)) ∙ laid_handed m w behind caller word p)

@@ -1,5 +1,5 @@
 -- The lent words of a mailbox as head, line, places and interrupts one behind another, and what a store into them makes. Assumes nothing.
-use mathlib.Core.Bool.{true, false, false≢true}
+use mathlib.Core.Bool.{true, false≢true}
 use mathlib.Core.Path.{◌≡◌, refl, sym, ap, ◌∙◌}
 use mathlib.Core.List.{List, [], ◌∷◌, ◌++◌, map, append_assoc}
 use Prim.Native.Nat.{ℕ, zero, suc, ◌+◌, ◌≤◌, ◌<◌}
@@ -15,7 +15,7 @@ use Rattle.lent.proofs.Laws.{words_fits}
 use Rattle.mailbox.specs.declared.Place.{Place}
 use Rattle.mailbox.specs.declared.Post.{Post}
 use Rattle.mailbox.specs.declared.Mailbox.{Mailbox}
-use Rattle.mailbox.proofs.Facts.{both}
+use Rattle.std.proofs.lemmas.Bool.{and_parts}
 use Rattle.mailbox_layout.specs.Layout.{post_word, place_word, interrupt_word, head_of, pack_of, unpack_of}
 use Rattle.mailbox_held.specs.Held.{held_in}
 use Rattle.mailbox_layout.proofs.LayoutLaws.{Whole, unpacked_whole, pack_long}
@@ -130,7 +130,7 @@ unfolding begins
 begins_is [] ws e = (omega arith, refl)
 begins_is (v ∷ vs) [] e = absurd (false≢true e)
 begins_is (v ∷ vs) (w ∷ ws) e =
-    let b = both (eqb w v) (begins vs ws) e in
+    let b = and_parts (eqb w v) (begins vs ws) e in
     let r = begins_is vs ws b.1 in
     let long = r.0 in
     let same : w ≡ v = eqb-true w v b.0 in

@@ -6,6 +6,7 @@ ghost use Rattle.std.specs.Int.Bits.{bit_or};
 ghost use Rattle.marks.specs.Marks.{bit_of, kept_as};
 
 // Another form of a word of marks. A word is kept so, since an array that begins with ones is cleared by plain stores, and one of zeros by a call.
+#[tactic(auto, using(crate::proofs::Bits::kept_xor))]
 fn kept(word: u64) -> u64
     ensures { result ≡ kept_as word }
 {
@@ -17,7 +18,7 @@ pub fn cell(number: u16) -> usize
     ensures value { result ≡ number / 64 }
     ensures upper_bound { result < 1024 }
 {
-    (number / 64) as usize
+    usize::from(number / 64)
 }
 
 // Has the word the mark?
@@ -28,6 +29,7 @@ pub fn marked(word: u64, number: u16) -> bool
 }
 
 // The word with the mark.
+#[tactic(auto, using(crate::proofs::Bits::one_shifted))]
 pub fn with_mark(word: u64, number: u16) -> u64
     ensures { result ≡ kept_as (bit_or (kept_as word) (2 ^ (number % 64))) }
 {

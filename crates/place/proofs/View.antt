@@ -1,5 +1,5 @@
 -- The directory at a place is given exactly where it is good, a view of a level answers as the calls on that level do, and bytes are a part of the image. Assumes nothing.
-use mathlib.Core.Path.{◌≡◌, refl, sym, ap, subst, ◌∙◌}
+use mathlib.Core.Path.{◌≡◌, refl, sym, ap, ◌∙◌}
 use mathlib.Core.List.{List}
 use mathlib.Core.Bool.{Bool, true, false, not, cond}
 use Prim.Native.Nat.{ℕ, ◌+◌, ◌<◌, ◌≤◌}
@@ -22,8 +22,9 @@ use Rattle.window.specs.Inside.{GoodLength}
 use Rattle.efs.specs.Rules.{rules_of}
 use Rattle.efs.specs.declared.Rules.{Rules}
 use Rattle.flash.specs.Flash.{flash_directory, flash_part}
+use Rattle.window.specs.declared.Offset.{Offset}
 use Rattle.window.specs.Window.{nearest_to, within}
-use Rattle.window.specs.Length.{longest, length_allowed}
+use Rattle.window.specs.Length.{sized, longest, length_allowed}
 use Rattle.window.proofs.Length.{allowed_fact, sized_passed, sized_past}
 use Rattle.flash.proofs.Ways.{Opened, one, two, opened, led_given}
 use Rattle.place.specs.Place.{check_at, entry_at, part_at, held_bytes, held_place, view_image, view_place, part_through}
@@ -163,6 +164,17 @@ nearest_place = record {
   part = λ r s place i. ap (λ (x : Reply Directory). then x (λ d. part_in r.kind r.window s d i)) (nearest_check r s place);
 }
 
+-- the same of an offset that is known to be the nearest
+module _ (r : Rules) (s : List ℕ) (o : Offset) (place : ℕ) (near : o ≡ nearest_to place) where
+  pub nearest_directory : check_at r s o.0 ≡ check_at r s place
+  nearest_directory = ap (λ (o : Offset). check_at r s o.0) near ∙ nearest_place.check r s place
+
+  pub nearest_entry : (i : ℕ) → entry_at r s o.0 i ≡ entry_at r s place i
+  nearest_entry i = ap (λ (o : Offset). entry_at r s o.0 i) near ∙ nearest_place.entry r s place i
+
+  pub nearest_part : (i : ℕ) → part_at r s o.0 i ≡ part_at r s place i
+  nearest_part i = ap (λ (o : Offset). part_at r s o.0 i) near ∙ nearest_place.part r s place i
+
 module _ (r : Rules) (s : List ℕ) (place i : ℕ) where
   inside : (p : Part) → part_at r s place i ≡ given p → p.place.0 + p.length ≤ length s
   inside p e = let t = then_given (check_at r s place) _ e in part_inside r.kind r.window s t.0 i p t.2
@@ -187,3 +199,10 @@ part_of_image = record {
   begin = λ r s place i p at e. ap (begin_of at) e;
   none = λ r s place i number carried e. ap (bytes_of s) e;
 }
+
+-- the part of an entry of a directory that is given, by the rules of the image
+pub part_kept : (s : List ℕ) (place i : ℕ) (r : Rules) (d : Directory) → r ≡ rules_of s → given d ≡ check_at r s place → sized s (part_in r.kind r.window s d i) ≡ part_at (rules_of s) s place i
+part_kept s place i r d e g =
+    sized_passed s _ (checked_long r s place d (sym g))
+    ∙ ap (λ (x : Reply Directory). then x (λ d. part_in r.kind r.window s d i)) g
+    ∙ ap (λ (r : Rules). part_at r s place i) e

@@ -3,11 +3,7 @@ use mathlib.Core.Path.{◌≡◌, refl, sym, ap, ◌∙◌}
 use mathlib.Core.Bool.{Bool, true, false, cond}
 use Prim.Native.Nat.{ℕ}
 use native.Mathlib.Omega.{arith}
-use Rattle.reply.specs.Reply.{Reply, Carried, given, refused, check, then, met, carried_of, OneToOne, Settled}
-use Rattle.reply.specs.Back.{met_by, fault_by}
-use Rattle.reply.specs.declared.Met.{Met}
-use Rattle.reply.specs.declared.Met.TheVariants as place
-use Rattle.reply.specs.declared.Fault.{Fault}
+use Rattle.reply.specs.Reply.{Reply, Carried, given, refused, check, then, met, OneToOne, Settled}
 
 -- given is never refused
 pub clash : {A : Type 0} {B : Type 0} {n : ℕ} {c : Carried} {a : A} → refused n c ≡ given a → B
@@ -67,15 +63,6 @@ one_by told back h x y e = sym (h x) ∙ ap back e ∙ h y
 pub check_same : {A : Type 0} (b : Bool) (number : ℕ) (carried : Carried) (r q : Reply A) → (b ≡ true → r ≡ q) → check b number carried r ≡ check b number carried q
 check_same true number carried r q h = h refl
 check_same false number carried r q h = refl
-
--- a fault from what it tells, and the way back
-pub met_back : (m : Met) → met_by (carried_of m) ≡ m
-met_back place.Alone = refl
-met_back (place.Header level directory) = refl
-met_back (place.Entry level index directory) = refl
-
-pub fault_back : (why : Fault) → fault_by why.number (carried_of why.met) ≡ why
-fault_back why = ap {A = Met} {B = Fault} (λ m. record { number = why.number; met = m }) (met_back why.met)
 
 -- where a refusal was met matters to no reply that gives
 pub met_given : {A : Type 0} {a : A} (here : Carried) (r : Reply A) → met here r ≡ given a → r ≡ given a

@@ -1,7 +1,12 @@
 -- What a call answers, for every call of every crate. Assumes nothing: these are definitions.
-use Rattle.std.specs.Prelude.{ℕ, ◌≡◌, Bool, true, false}
+use Rattle.std.specs.Prelude.{ℕ, ◌≡◌, Bool, true, false, Result, Ok, Err}
+use Rattle.reply.specs.Number.{refusal_number}
+use Rattle.reply.specs.declared.Refusal.{Refusal}
 use Rattle.reply.specs.declared.Met.{Met}
 use Rattle.reply.specs.declared.Met.TheVariants as place
+use Rattle.reply.specs.declared.Fault.{Fault}
+use Rattle.reply.specs.declared.Missed.{Missed}
+use Rattle.reply.specs.declared.Missed.TheVariants as missed
 
 -- what a number carries besides itself: nothing, the count of entries tested, or where it was met: in the header of a directory of a level (0 where no
 -- cookie told it), or in an entry of one; the directory by the offset where it begins
@@ -40,6 +45,29 @@ abbrev pub carried_of : Met → Carried
 carried_of place.Alone = alone
 carried_of (place.Header level directory) = in_header level directory
 carried_of (place.Entry level index directory) = in_entry level index directory
+
+-- a refusal that was met nowhere
+abbrev pub alone_fault : Refusal → Fault
+alone_fault refusal = record { refusal = refusal; met = place.Alone }
+
+-- what an answer tells: of a call whose refusals stand alone, of a call on a directory, and of a search
+abbrev pub told_alone : {A : Type 0} → Result A Refusal → Reply A
+told_alone (Ok a) = given a
+told_alone (Err refusal) = refused (refusal_number refusal) alone
+
+abbrev pub told : {A : Type 0} → Result A Fault → Reply A
+told (Ok a) = given a
+told (Err fault) = refused (refusal_number fault.refusal) (carried_of fault.met)
+
+abbrev pub told_search_alone : {A : Type 0} → Result A (Missed Refusal) → Reply A
+told_search_alone (Ok a) = given a
+told_search_alone (Err (missed.Absent n)) = refused 8 (tested n)
+told_search_alone (Err (missed.Refused refusal)) = refused (refusal_number refusal) alone
+
+abbrev pub told_search : {A : Type 0} → Result A (Missed Fault) → Reply A
+told_search (Ok a) = given a
+told_search (Err (missed.Absent n)) = refused 8 (tested n)
+told_search (Err (missed.Refused fault)) = refused (refusal_number fault.refusal) (carried_of fault.met)
 
 -- no two answers of a call tell the same
 abbrev pub OneToOne : {E : Type 0} {A : Type 0} → (E → Reply A) → Type 0

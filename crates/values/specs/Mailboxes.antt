@@ -1,14 +1,13 @@
 -- Mailboxes and command words at which two neighbouring checks fail, or one alone, with the number or status that is due: the rows of what is stated in Orders.antt. Assumes nothing: these are definitions.
-use Rattle.std.specs.Prelude.{ℕ, ◌-◌, Bool, true, false, List, [], ◌∷◌, ◌++◌, map, length, replicate, take}
+use Rattle.std.specs.Prelude.{ℕ, ◌-◌, Bool, true, false, List, Some, [], ◌∷◌, ◌++◌, map, length, replicate, take}
 use Rattle.reply.specs.Reply.{Reply, given, refused}
 use Rattle.firmware.specs.Rules.{fresh_firmware, interface_off, holding, saving, run_of}
-use Rattle.firmware.specs.declared.Part.TheVariants.{Held}
 use Rattle.firmware.specs.declared.Firmware.{Firmware}
-use Rattle.mailbox.specs.Machine.{no_post, post_by, place_with, mailbox_before, fresh_mailbox, joined, handed_over}
+use Rattle.mailbox.specs.Machine.{no_post, post_by, mailbox_before, fresh_mailbox, joined, handed_over}
 use Rattle.mailbox.specs.declared.Phase.{Phase}
 use Rattle.mailbox.specs.declared.Phase.TheVariants.{Idle, Command, Response}
-use Rattle.mailbox.specs.declared.PlaceState.{PlaceState}
-use Rattle.mailbox.specs.declared.PlaceState.TheVariants.{Free, Waiting, Ready}
+use Rattle.mailbox.specs.declared.Place.{Place}
+use Rattle.mailbox.specs.declared.Place.TheVariants.{Free, Waiting, Ready}
 use Rattle.mailbox.specs.declared.Post.{Post}
 use Rattle.mailbox.specs.declared.Mailbox.{Mailbox}
 use Rattle.values.specs.Images.{Row, row}
@@ -25,12 +24,12 @@ ready = handed_over fresh_mailbox 0 0x8080_0000
 
 -- ---- which mailboxes keep the rules
 -- the register, how many posts wait, what stands in the first slots of the line, and in the first places
-abbrev pub mailbox_with : (register : Phase) (count : ℕ) (posts : List Post) (states : List PlaceState) → Mailbox
+abbrev pub mailbox_with : (register : Phase) (count : ℕ) (posts : List Post) (states : List Place) → Mailbox
 mailbox_with register count posts states = record {
   register = register;
   count = count;
   line = posts ++ replicate (8 - length posts) no_post;
-  places = map place_with (states ++ replicate (8 - length states) Free);
+  places = states ++ replicate (8 - length states) Free;
   firmware = fresh_firmware;
 }
 
@@ -42,7 +41,7 @@ abbrev pub eight : List Post
 eight = map (λ caller. post_by caller 0x3FF 0xFFFF) (0 ∷ 1 ∷ 2 ∷ 3 ∷ 4 ∷ 5 ∷ 6 ∷ 7 ∷ [])
 
 -- caller 7 alone waits
-abbrev pub seven_waits : List PlaceState
+abbrev pub seven_waits : List Place
 seven_waits = replicate 7 Free ++ (Waiting ∷ [])
 
 -- one rule broken, or none
@@ -80,7 +79,7 @@ consistent_rows =
     ∷ row (mailbox_with Idle 0 [] (Waiting ∷ [])) 5  -- waiting with no post
     ∷ row (mailbox_with (Command 1 0) 0 [] (Waiting ∷ Waiting ∷ [])) 5
     ∷ row (mailbox_with Idle 0 [] (replicate 8 (Ready 0xFFFF_FFFF))) 0
-    ∷ row (mailbox_before (holding fresh_firmware (Held 1) (Held 2) (Held 3))) 0  -- nothing is asked of the firmware
+    ∷ row (mailbox_before (holding fresh_firmware (Some 1) (Some 2) (Some 3))) 0  -- nothing is asked of the firmware
     ∷ []
 
 -- ---- the calls
@@ -121,7 +120,7 @@ step_number (given false) = 0
 step_number (refused number carried) = number
 
 -- a post of caller 1 in line, beside this register and this state of caller 0's place
-abbrev pub holds : (register : Phase) (state : PlaceState) → Mailbox
+abbrev pub holds : (register : Phase) (state : Place) → Mailbox
 holds register state = mailbox_with register 1 (post_by 1 0x80 0 ∷ []) (state ∷ Waiting ∷ [])
 
 abbrev pub load_rows : List (Row Mailbox)
@@ -162,5 +161,5 @@ status_rows =
     ∷ row (interface_off fresh_firmware, 0x0085_0400) 2  -- for disabling too
     ∷ row (saving (interface_off fresh_firmware) 0 0 0x400, 0x0085_0401) 0
     ∷ row (fresh_firmware, 0x0086_0000) 1
-    ∷ row ((run_of (holding (interface_off fresh_firmware) (Held 0) (Held 0) (Held 0x400)) 0x0082_0000).firmware, 0x0085_0401) 0  -- all three held: the next that comes is saved with them
+    ∷ row ((run_of (holding (interface_off fresh_firmware) (Some 0) (Some 0) (Some 0x400)) 0x0082_0000).firmware, 0x0085_0401) 0  -- all three held: the next that comes is saved with them
     ∷ []

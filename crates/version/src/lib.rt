@@ -2,16 +2,10 @@
 #![tactic(auto)]
 
 ghost use Rattle.std.specs.Prelude.{◌≡◌};
-ghost use Rattle.version.specs.Version.{version_of, told_version};
+ghost use Rattle.reply.specs.Reply.{told_alone};
+ghost use Rattle.version.specs.Version.{version_of};
 
 use reply::Refusal;
-
-// What a binary's first bytes answer: its version, or why there is none.
-#[derive(Clone, Copy)]
-pub enum VersionAnswer {
-    Given(u32),
-    Refused(Refusal),
-}
 
 // The header that a binary begins with: its bytes, and where the mark and the version stand in it.
 const HEADER_LENGTH: usize = 256;
@@ -24,14 +18,15 @@ const HEADER_VERSION: usize = 0x60;
 const PS1: u32 = 0x3153_5024;
 
 // The version of a binary, by its header.
-pub fn version(bytes: &[u8]) -> VersionAnswer
-    ensures { told_version result ≡ version_of bytes.now }
+#[tactic(auto, unfolding(crate::specs::Version::version_of))]
+pub fn version(bytes: &[u8]) -> Result<u32, Refusal>
+    ensures { told_alone result ≡ version_of bytes.now }
 {
     if bytes.len() < HEADER_LENGTH {
-        return VersionAnswer::Refused(Refusal::SHORT);
+        return Err(Refusal::Short);
     }
     if le::u32_at(bytes, HEADER_MARK) != PS1 {
-        return VersionAnswer::Refused(Refusal::SIGNATURE);
+        return Err(Refusal::Signature);
     }
-    VersionAnswer::Given(le::u32_at(bytes, HEADER_VERSION))
+    Ok(le::u32_at(bytes, HEADER_VERSION))
 }

@@ -4,21 +4,16 @@ use mathlib.Core.List.{List, [], ◌∷◌, ◌++◌, append_assoc, append-nil}
 use mathlib.Core.Bool.{Bool, true, false}
 use Prim.Native.Nat.{ℕ, ◌+◌}
 use native.Mathlib.Omega.{arith}
-use Rattle.reply.specs.Reply.{Reply, Carried, given, refused, alone, tested, in_header, in_entry, carried_of}
-use Rattle.reply.specs.declared.Met.{Met}
-use Rattle.reply.specs.declared.Met.TheVariants as place
-use Rattle.reply.specs.Back.{fault_by}
-use Rattle.reply.proofs.ReplyLaws.{one_by, apart, fault_back}
+use Rattle.reply.specs.Reply.{Carried, given, refused, tested}
+use Rattle.reply.proofs.ReplyLaws.{apart}
+use Rattle.reply.proofs.Told.{told_search_one}
 use Rattle.entries.specs.Entry.{entry_of, matches}
 use Rattle.entries.specs.Good.{Matches}
 use Rattle.directory.specs.declared.Kind.{Kind}
 use Rattle.directory.specs.declared.Directory.{Directory}
 use Rattle.entries.proofs.Lowest.{match_says, match_holds}
-use Rattle.walk.specs.Walk.{Step, enter, test, fault, first_in, told_image_match}
+use Rattle.walk.specs.Walk.{Step, enter, test, fault, first_in}
 use Rattle.walk.specs.First.{tests, Quiet, match_in, Answered, matched, faulty, ended, FirstMatch, FoundApart}
-use Rattle.walk.specs.declared.ImageMatch.{ImageMatch}
-use Rattle.walk.specs.declared.ImageMatchAnswer.{ImageMatchAnswer}
-use Rattle.walk.specs.declared.ImageMatchAnswer.TheVariants as image_match_answer
 
 module _ (kind : Kind) (s : List ℕ) (class sub : ℕ) where
   no_match : (d : Directory) (i : ℕ) → (Matches kind s d class sub i → ⊥) → matches (entry_of kind s d i) class sub ≡ false
@@ -78,25 +73,5 @@ module _ (kind : Kind) (s : List ℕ) (class sub : ℕ) where
 pub first_match : FirstMatch
 first_match = record { answered = answered; match = at_match; stop = at_fault; absent = at_end }
 
-found_back : Reply ImageMatch → ImageMatchAnswer
-found_back (given f) = image_match_answer.Given f
-found_back (refused number alone) = image_match_answer.Refused (fault_by number alone)
-found_back (refused number (tested n)) = image_match_answer.Absent n
-found_back (refused number (in_header level directory)) = image_match_answer.Refused (fault_by number (in_header level directory))
-found_back (refused number (in_entry level index directory)) = image_match_answer.Refused (fault_by number (in_entry level index directory))
-
--- where a fault was met is never a count
-found_met : (number : ℕ) (m : Met) → found_back (refused number (carried_of m)) ≡ image_match_answer.Refused (fault_by number (carried_of m))
-unfolding found_back
-found_met number place.Alone = refl
-found_met number (place.Header level directory) = refl
-found_met number (place.Entry level index directory) = refl
-
-found_back_lem : (x : ImageMatchAnswer) → found_back (told_image_match x) ≡ x
-unfolding found_back
-found_back_lem (image_match_answer.Given f) = refl
-found_back_lem (image_match_answer.Absent n) = refl
-found_back_lem (image_match_answer.Refused why) = found_met why.number why.met ∙ ap (λ w. image_match_answer.Refused w) (fault_back why)
-
 pub found_apart : FoundApart
-found_apart = one_by told_image_match found_back found_back_lem
+found_apart = told_search_one

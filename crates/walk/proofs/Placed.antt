@@ -1,14 +1,12 @@
 -- The checks of a directory refuse with where they met what is wrong, never with a count. Assumes nothing.
-use mathlib.Core.Path.{◌≡◌, refl, sym, ap, subst}
+use mathlib.Core.Path.{◌≡◌, refl, sym, subst}
 use mathlib.Core.List.{List}
 use mathlib.Core.Bool.{Bool, true, false}
 use Prim.Native.Nat.{ℕ, zero, suc, ◌+◌}
-use native.Mathlib.Omega.{arith}
 use lib.ListN.{length}
 use lib.Dec.{leb, eqb}
 use Rattle.le.specs.Le.{le_at}
 use Rattle.reply.specs.Reply.{Reply, Carried, given, refused, alone, tested, in_header, in_entry, check, then, met, carried_of}
-use Rattle.reply.specs.Back.{met_by}
 use Rattle.reply.specs.Scan.{scan}
 use Rattle.reply.specs.declared.Met.{Met}
 use Rattle.reply.specs.declared.Met.TheVariants as place
@@ -22,17 +20,20 @@ use Rattle.efs.specs.declared.Rules.{Rules}
 use Rattle.entries.specs.declared.Entry.{Entry}
 use Rattle.flash.specs.Flash.{level_two_at}
 
--- where a fault was met, or nothing: the code has it, as it has no count
+-- where a fault was met, or nothing, but no count
 abbrev pub Place : Carried → Type 0
-Place carried = carried_of (met_by carried) ≡ carried
+Place alone = Unit {0}
+Place (tested count) = ⊥
+Place (in_header level directory) = Unit {0}
+Place (in_entry level index directory) = Unit {0}
 
 pub place_of : (m : Met) → Place (carried_of m)
-place_of place.Alone = refl
-place_of (place.Header level directory) = refl
-place_of (place.Entry level index directory) = refl
+place_of place.Alone = tt
+place_of (place.Header level directory) = tt
+place_of (place.Entry level index directory) = tt
 
 pub no_count : (t : ℕ) (carried : Carried) → Place carried → tested t ≡ carried → ⊥
-no_count t carried p e = let q : alone ≡ tested t = subst Place (sym e) p in let z : ◌≡◌ {A = ℕ} 0 1 = cc in omega arith
+no_count t carried p e = subst Place (sym e) p
 
 -- if refused, then with a place
 abbrev Placed : {A : Type 0} → Reply A → Type 0
@@ -63,10 +64,10 @@ scan_placed step last f g (suc m) i = f i _ (scan_placed step last f g m (i + 1)
 
 module _ (kind : Kind) (limit level : ℕ) (s : List ℕ) (o : ℕ) where
   in_header_lem : (b : Bool) (n : ℕ) (rest : Reply Directory) → Placed rest → Placed (check b n (in_header level o) rest)
-  in_header_lem b n rest = check_placed b n (in_header level o) rest refl
+  in_header_lem b n rest = check_placed b n (in_header level o) rest tt
 
   in_entry_lem : (b : Bool) (n i : ℕ) (rest : Reply Directory) → Placed rest → Placed (check b n (in_entry level i o) rest)
-  in_entry_lem b n i rest = check_placed b n (in_entry level i o) rest refl
+  in_entry_lem b n i rest = check_placed b n (in_entry level i o) rest tt
 
   checks_placed : Placed (directory_checks kind limit level s o)
   unfolding directory_checks
@@ -83,12 +84,12 @@ module _ (kind : Kind) (limit level : ℕ) (s : List ℕ) (o : ℕ) where
       (λ i. given_placed _) n 0))))))
 
   directory_placed : Placed (directory_at kind limit level s o)
-  directory_placed = check_placed (leb 1 level) _ alone _ refl (check_placed (leb level 2) _ alone _ refl checks_placed)
+  directory_placed = check_placed (leb 1 level) _ alone _ tt (check_placed (leb level 2) _ alone _ tt checks_placed)
 
 pub level_placed : (rules : Rules) (s : List ℕ) (d : Directory) (i : ℕ) (e : Entry) → Placed (level_two_at rules s d i e)
 level_placed rules s d i e =
     then_placed (met here (leads_to rules.window s d.place.0 e)) (λ (a : Offset). directory_at rules.kind rules.limit 2 s a.0)
-    (met_placed here (leads_to rules.window s d.place.0 e) refl) (λ a. directory_placed rules.kind rules.limit 2 s a.0)
+    (met_placed here (leads_to rules.window s d.place.0 e) tt) (λ a. directory_placed rules.kind rules.limit 2 s a.0)
   where
     here : Carried
     here = in_entry d.level i d.place.0

@@ -3,16 +3,19 @@ use mathlib.Core.Path.{◌≡◌, refl, sym, ap, subst, ◌∙◌}
 use mathlib.Core.List.{List, [], ◌∷◌, ◌++◌}
 use mathlib.Core.Bool.{Bool, true, false, cond}
 use Prim.Native.Nat.{ℕ, zero, suc, ◌+◌, ◌-◌, ◌<◌, ◌≤◌}
-use native.Mathlib.Nat.{pos_of_ne-zero}
 use native.Mathlib.Omega.{arith}
-use borrow.Author.Tests.{eqb-false}
 use lib.Dec.{eqb, eqb-suc-zero}
-use Rattle.reply.specs.Reply.{Reply, Carried, given, refused, tested, in_entry, met, carried_of}
+use Rattle.reply.specs.Reply.{Reply, Carried, given, refused, tested, in_entry, then, met, carried_of, told_search}
+use Rattle.reply.specs.Number.{refusal_number}
+use Rattle.std.specs.Prelude.{Result, Ok, Err}
+use Rattle.std.specs.Result.{MatchResult, is_ok}
 use Rattle.reply.specs.declared.Fault.{Fault}
-use Rattle.reply.proofs.ReplyLaws.{clash, then_given}
+use Rattle.reply.specs.declared.Missed.{Missed}
+use Rattle.reply.specs.declared.Missed.TheVariants as missed
+use Rattle.reply.proofs.ReplyLaws.{clash, apart, then_given}
 use Rattle.window.specs.declared.Offset.{Offset}
-use Rattle.directory.specs.Directory.{entry_place, directory_at}
-use Rattle.entries.specs.Entry.{fields_at, entry_of, entry_in, matches}
+use Rattle.directory.specs.Directory.{directory_at}
+use Rattle.entries.specs.Entry.{entry_of, matches}
 use Rattle.entries.specs.Part.{leads_to}
 use Rattle.directory.specs.declared.Kind.{Kind}
 use Rattle.directory.specs.declared.Directory.{Directory}
@@ -22,8 +25,7 @@ use Rattle.directory.proofs.Accept.{acceptance}
 use Rattle.entries.proofs.Accept.{all_entry}
 use Rattle.flash.specs.Flash.{level_two_at}
 use Rattle.walk.specs.Walk.{Step, enter, test, fault, entries_from, walked_by, below_of, walk_from, walk_of, first_in}
-use Rattle.reply.specs.Back.{fault_by}
-use Rattle.walk.specs.Probe.{entered, probed, probed_by, probe_of, is_pass}
+use Rattle.walk.specs.Probe.{entered, probed, probe_of, is_pass, found_from}
 use Rattle.walk.specs.First.{tests, match_in}
 use Rattle.walk.specs.declared.ImageMatch.{ImageMatch}
 use Rattle.walk.specs.declared.Search.{Search}
@@ -111,165 +113,155 @@ unfolding tests entries_from below_of
 last_tests rules s d zero i = refl
 last_tests rules s d (suc m) i = let e = last_tests rules s d m (i + 1) in omega arith
 
--- no entries
-pub walk_none : (depth : ℕ) (rules : Rules) (s : List ℕ) (d : Directory) (class sub m i t : ℕ) → m ≡ 0 → refused 8 (tested t) ≡ first_in rules.kind s class sub (walk_from depth rules s d m i) t
-unfolding entries_from first_in
-walk_none depth rules s d class sub m i t e = rw e
+-- a directory that an entry leads to has been checked
+pub level_few : (rules : Rules) (s : List ℕ) (d : Directory) (i : ℕ) (e : Entry) (n : Directory) → given n ≡ level_two_at rules s d i e → n.total ≤ rules.limit
+level_few rules s d i e n q =
+    let t = then_given (met (in_entry d.level i d.place.0) (leads_to rules.window s d.place.0 e)) (λ (a : Offset). directory_at rules.kind rules.limit 2 s a.0) (sym q) in
+    (acceptance.only rules.kind rules.limit 2 s t.0.0 n t.2).0.few
 
--- the search by these rules for this type and subprogram
-abbrev pub seek : Rules → ℕ → ℕ → Search
-seek rules class sub = record { rules = rules; class = class; sub = sub }
+-- what a probe of entry i tells, with so many levels left below
+data Probed (depth : ℕ) (by : Search) (s : List ℕ) (i : ℕ) (e : Entry) : Reply Probe → Type 0 where
+  is_match : matches e by.class by.sub ≡ true → Probed depth by s i e (given probe.Match)
+  is_pass_lem : matches e by.class by.sub ≡ false → below_of depth by.rules s by.directory i e ≡ [] → Probed depth by s i e (given probe.Pass)
+  is_enter : {n : Directory} → matches e by.class by.sub ≡ false → below_of depth by.rules s by.directory i e ≡ walk_of (depth - 1) by.rules s n →
+      Probed depth by s i e (given (probe.Enter n))
+  is_fault : {number : ℕ} {carried : Carried} → matches e by.class by.sub ≡ false → below_of depth by.rules s by.directory i e ≡ fault number carried ∷ [] → Probed depth by s i e (refused number carried)
 
--- what a probe of entry i tells
-data Probed (depth : ℕ) (rules : Rules) (s : List ℕ) (d : Directory) (i class sub : ℕ) (e : Entry) : Probe → Type 0 where
-  is_match : matches e class sub ≡ true → Probed depth rules s d i class sub e probe.Match
-  is_pass_lem : matches e class sub ≡ false → below_of depth rules s d i e ≡ [] → Probed depth rules s d i class sub e probe.Pass
-  is_enter : {n : Directory} → matches e class sub ≡ false → 0 < depth → n.total ≤ rules.limit → below_of depth rules s d i e ≡ walk_of (depth - 1) rules s n → Probed depth rules s d i class sub e (probe.Enter n)
-  is_fault : {why : Fault} → matches e class sub ≡ false → below_of depth rules s d i e ≡ fault why.number (carried_of why.met) ∷ [] → Probed depth rules s d i class sub e (probe.Refused why)
-
-probed_is : (depth : ℕ) (rules : Rules) (s : List ℕ) (d : Directory) (i class sub : ℕ) (e : Entry) → Probed depth rules s d i class sub e (probed depth (seek rules class sub) s d i e)
+probed_is : (by : Search) (s : List ℕ) (i : ℕ) (e : Entry) → Probed by.depth by s i e (probed by s i e)
 unfolding probed below_of
-probed_is depth rules s d i class sub e = by (matches e class sub) refl depth
+probed_is by s i e = tell (matches e by.class by.sub) refl by.depth
   where
-    few : (n : Directory) → level_two_at rules s d i e ≡ given n → n.total ≤ rules.limit
-    few n q =
-        let t = then_given (met (in_entry d.level i d.place.0) (leads_to rules.window s d.place.0 e)) (λ (a : Offset). directory_at rules.kind rules.limit 2 s a.0) q in
-        (acceptance.only rules.kind rules.limit 2 s t.0.0 n t.2).0.few
-
-    down : (l : ℕ) (b : Bool) (r : Reply Directory) → eqb e.class rules.kind.lead ≡ b → level_two_at rules s d i e ≡ r → matches e class sub ≡ false →
-        Probed (suc l) rules s d i class sub e (cond b (entered r) probe.Pass)
-    down l true (given n) q w m = let z : suc l - 1 ≡ l = omega arith in is_enter {n = n} m (omega arith) (few n w) (rw (q, w, z))
-    down l true (refused number carried) q w m = let a = level_placed rules s d i e number carried w in is_fault {why = fault_by number carried} m (rw (q, w, a))
+    down : (l : ℕ) (b : Bool) (r : Reply Directory) → eqb e.class by.rules.kind.lead ≡ b → level_two_at by.rules s by.directory i e ≡ r → matches e by.class by.sub ≡ false →
+        Probed (suc l) by s i e (cond b (entered r) (given probe.Pass))
+    down l true (given n) q w m = let z : suc l - 1 ≡ l = omega arith in is_enter {n = n} m (rw (q, w, z))
+    down l true (refused number carried) q w m = is_fault m (rw (q, w))
     down l false r q w m = is_pass_lem m (rw q)
 
-    last : (b : Bool) → matches e class sub ≡ false → Probed 0 rules s d i class sub e (cond b probe.Pass probe.Pass)
+    last : (b : Bool) → matches e by.class by.sub ≡ false → Probed 0 by s i e (cond b (given probe.Pass) (given probe.Pass))
     last true m = is_pass_lem m refl
     last false m = is_pass_lem m refl
 
-    by : (b : Bool) → matches e class sub ≡ b → (l : ℕ) →
-        Probed l rules s d i class sub e (cond b probe.Match (cond (eqb e.class rules.kind.lead) (cond (eqb l 0) probe.Pass (entered (level_two_at rules s d i e))) probe.Pass))
-    by true m l = is_match m
-    by false m zero = last (eqb e.class rules.kind.lead) m
-    by false m (suc l) = rw (eqb-suc-zero l) (down l (eqb e.class rules.kind.lead) (level_two_at rules s d i e) refl refl m)
+    tell : (b : Bool) → matches e by.class by.sub ≡ b → (l : ℕ) →
+        Probed l by s i e (cond b (given probe.Match) (cond (eqb e.class by.rules.kind.lead) (cond (eqb l 0) (given probe.Pass) (entered (level_two_at by.rules s by.directory i e))) (given probe.Pass)))
+    tell true m l = is_match m
+    tell false m zero = last (eqb e.class by.rules.kind.lead) m
+    tell false m (suc l) = rw (eqb-suc-zero l) (down l (eqb e.class by.rules.kind.lead) (level_two_at by.rules s by.directory i e) refl refl m)
 
--- the walk of the last `left` entries of a directory, by what the probe of the first of them says
-module _ (depth : ℕ) (rules : Rules) (s : List ℕ) (d : Directory) (class sub left t : ℕ) (some : 0 < left) (few : left ≤ d.total) where
+-- the walk of the entries of a directory from index i on, by what the probe of entry i says; r is what the walk from an earlier one on answers
+module _ (by : Search) (s : List ℕ) (i t : ℕ) {r : Reply ImageMatch} (same : found_from by s i t ≡ r) (more : i < by.directory.total) where
   here : Entry
-  here = entry_of rules.kind s d (d.total - left)
+  here = entry_of by.rules.kind s by.directory i
 
   rest : List Step
-  rest = walk_from depth rules s d (left - 1) (d.total - (left - 1))
+  rest = walk_from by.depth by.rules s by.directory (by.directory.total - (i + 1)) (i + 1)
 
-  step : first_in rules.kind s class sub (walk_from depth rules s d left (d.total - left)) t
-      ≡ cond (matches here class sub) (given (match_in d (d.total - left) (t + 1))) (first_in rules.kind s class sub (below_of depth rules s d (d.total - left) here ++ rest) (t + 1))
+  step : found_from by s i t
+      ≡ cond (matches here by.class by.sub) (given (match_in by.directory i (t + 1))) (first_in by.rules.kind s by.class by.sub (below_of by.depth by.rules s by.directory i here ++ rest) (t + 1))
   unfolding entries_from first_in here rest
   step =
-      let a : left ≡ suc (left - 1) = omega arith in
-      let b : d.total - left + 1 ≡ d.total - (left - 1) = omega arith in
-      ap (λ (m : ℕ). first_in rules.kind s class sub (walk_from depth rules s d m (d.total - left)) t) a
-      ∙ ap (λ (j : ℕ). cond (matches here class sub) (given (match_in d (d.total - left) (t + 1))) (first_in rules.kind s class sub (below_of depth rules s d (d.total - left) here ++ walk_from depth rules s d (left - 1) j) (t + 1))) b
+      let a : by.directory.total - i ≡ suc (by.directory.total - (i + 1)) = omega arith in
+      ap (λ (m : ℕ). first_in by.rules.kind s by.class by.sub (walk_from by.depth by.rules s by.directory m i) t) a
 
-  told : (q : Probe) → q ≡ probe_of depth (seek rules class sub) s d (d.total - left) → Probed depth rules s d (d.total - left) class sub here q
+  told : (q : Reply Probe) → q ≡ probe_of by s i → Probed by.depth by s i here q
   unfolding here
   told q e =
-      let r = all_entry rules.kind s d (d.total - left) (omega arith) in
-      subst (Probed depth rules s d (d.total - left) class sub here) (sym (e ∙ ap (probed_by (probed depth (seek rules class sub) s d (d.total - left))) r)) (probed_is depth rules s d (d.total - left) class sub here)
+      let r = all_entry by.rules.kind s by.directory i more in
+      subst (Probed by.depth by s i here) (sym (e ∙ ap (λ (x : Reply Entry). then x (probed by s i)) r)) (probed_is by s i here)
 
-  pub by_match : probe.Match ≡ probe_of depth (seek rules class sub) s d (d.total - left) → given (match_in d (d.total - left) (t + 1)) ≡ first_in rules.kind s class sub (walk_from depth rules s d left (d.total - left)) t
-  by_match e = by (told probe.Match e)
+  pub by_match : {q : Probe} → q ≡ probe.Match → given q ≡ probe_of by s i → given (match_in by.directory i (t + 1)) ≡ r
+  by_match is e = tell (told (given probe.Match) (ap given (sym is) ∙ e))
     where
-      by : Probed depth rules s d (d.total - left) class sub here probe.Match → given (match_in d (d.total - left) (t + 1)) ≡ first_in rules.kind s class sub (walk_from depth rules s d left (d.total - left)) t
-      by (is_match m) = sym (rw m at step)
+      tell : Probed by.depth by s i here (given probe.Match) → given (match_in by.directory i (t + 1)) ≡ r
+      tell (is_match m) = sym (rw m at step) ∙ same
 
-  pub by_pass : probe.Pass ≡ probe_of depth (seek rules class sub) s d (d.total - left) →
-      first_in rules.kind s class sub (walk_from depth rules s d (left - 1) (d.total - (left - 1))) (t + 1) ≡ first_in rules.kind s class sub (walk_from depth rules s d left (d.total - left)) t
+  pub by_pass : {q : Probe} → q ≡ probe.Pass → given q ≡ probe_of by s i → found_from by s (i + 1) (t + 1) ≡ r
   unfolding rest
-  by_pass e = by (told probe.Pass e)
+  by_pass is e = tell (told (given probe.Pass) (ap given (sym is) ∙ e))
     where
-      by : Probed depth rules s d (d.total - left) class sub here probe.Pass →
-          first_in rules.kind s class sub (walk_from depth rules s d (left - 1) (d.total - (left - 1))) (t + 1) ≡ first_in rules.kind s class sub (walk_from depth rules s d left (d.total - left)) t
-      by (is_pass_lem m b) = sym (rw (m, b) at step)
+      tell : Probed by.depth by s i here (given probe.Pass) → found_from by s (i + 1) (t + 1) ≡ r
+      tell (is_pass_lem m b) = sym (rw (m, b) at step) ∙ same
 
-  pub by_fault : (why : Fault) → probe.Refused why ≡ probe_of depth (seek rules class sub) s d (d.total - left) →
-      refused why.number (carried_of why.met) ≡ first_in rules.kind s class sub (walk_from depth rules s d left (d.total - left)) t
+  pub by_fault : (number : ℕ) (carried : Carried) → refused number carried ≡ probe_of by s i → refused number carried ≡ r
   unfolding first_in
-  by_fault why e = by (told (probe.Refused why) e)
+  by_fault number carried e = tell (told (refused number carried) e)
     where
-      by : Probed depth rules s d (d.total - left) class sub here (probe.Refused why) → refused why.number (carried_of why.met) ≡ first_in rules.kind s class sub (walk_from depth rules s d left (d.total - left)) t
-      by (is_fault m b) = sym (rw (m, b) at step)
+      tell : Probed by.depth by s i here (refused number carried) → refused number carried ≡ r
+      tell (is_fault m b) = sym (rw (m, b) at step) ∙ same
 
-  module _ (n : Directory) (e : probe.Enter n ≡ probe_of depth (seek rules class sub) s d (d.total - left)) where
-    pub enter_facts : (0 < depth) × (n.total ≤ rules.limit)
-    enter_facts = by (told (probe.Enter n) e)
+  module _ {q : Probe} (n : Directory) (is : q ≡ probe.Enter n) (e : given q ≡ probe_of by s i) where
+    entry : given (probe.Enter n) ≡ probe_of by s i
+    entry = ap given (sym is) ∙ e
+
+    below : found_from by s i t ≡ first_in by.rules.kind s by.class by.sub (walk_of (by.depth - 1) by.rules s n ++ rest) (t + 1)
+    below = tell (told (given (probe.Enter n)) entry)
       where
-        by : Probed depth rules s d (d.total - left) class sub here (probe.Enter n) → (0 < depth) × (n.total ≤ rules.limit)
-        by (is_enter m h f b) = (h, f)
+        tell : Probed by.depth by s i here (given (probe.Enter n)) → found_from by s i t ≡ first_in by.rules.kind s by.class by.sub (walk_of (by.depth - 1) by.rules s n ++ rest) (t + 1)
+        tell (is_enter m b) = rw (m, b) at step
 
-    below : first_in rules.kind s class sub (walk_from depth rules s d left (d.total - left)) t ≡ first_in rules.kind s class sub (walk_of (depth - 1) rules s n ++ rest) (t + 1)
-    below = by (told (probe.Enter n) e)
-      where
-        by : Probed depth rules s d (d.total - left) class sub here (probe.Enter n) →
-            first_in rules.kind s class sub (walk_from depth rules s d left (d.total - left)) t ≡ first_in rules.kind s class sub (walk_of (depth - 1) rules s n ++ rest) (t + 1)
-        by (is_enter m h f b) = rw (m, b) at step
+    pub enter_given : (f : ImageMatch) → given f ≡ first_in by.rules.kind s by.class by.sub (walk_of (by.depth - 1) by.rules s n) (t + 1) → given f ≡ r
+    enter_given f h = sym (below ∙ first_given by.rules.kind s by.class by.sub (walk_of (by.depth - 1) by.rules s n) rest (t + 1) f (sym h)) ∙ same
 
-    pub enter_given : (f : ImageMatch) → given f ≡ first_in rules.kind s class sub (walk_of (depth - 1) rules s n) (t + 1) → given f ≡ first_in rules.kind s class sub (walk_from depth rules s d left (d.total - left)) t
-    enter_given f h = sym (below ∙ first_given rules.kind s class sub (walk_of (depth - 1) rules s n) rest (t + 1) f (sym h))
+    pub enter_refused : {m : Missed Fault} (why : Fault) → m ≡ missed.Refused why → told_search (Err m) ≡ first_in by.rules.kind s by.class by.sub (walk_of (by.depth - 1) by.rules s n) (t + 1) →
+        refused (refusal_number why.refusal) (carried_of why.met) ≡ r
+    enter_refused why is h =
+        let e = ap (λ m. told_search (Err m)) (sym is) ∙ h in
+        sym (below ∙ first_refused by.rules.kind s by.class by.sub (walk_of (by.depth - 1) by.rules s n) rest (t + 1) (refusal_number why.refusal) (carried_of why.met) (place_of why.met) (sym e)) ∙ same
 
-    pub enter_refused : (why : Fault) → refused why.number (carried_of why.met) ≡ first_in rules.kind s class sub (walk_of (depth - 1) rules s n) (t + 1) → refused why.number (carried_of why.met) ≡ first_in rules.kind s class sub (walk_from depth rules s d left (d.total - left)) t
-    enter_refused why h = sym (below ∙ first_refused rules.kind s class sub (walk_of (depth - 1) rules s n) rest (t + 1) why.number (carried_of why.met) (place_of why.met) (sym h))
+    module _ {m : Missed Fault} (u : ℕ) (none : m ≡ missed.Absent u) (h : told_search (Err m) ≡ first_in by.rules.kind s by.class by.sub (walk_of (by.depth - 1) by.rules s n) (t + 1)) where
+      ended : (first_in by.rules.kind s by.class by.sub (walk_of (by.depth - 1) by.rules s n ++ rest) (t + 1) ≡ first_in by.rules.kind s by.class by.sub rest u) × (u ≡ t + 1 + tests (walk_of (by.depth - 1) by.rules s n))
+      ended = first_absent by.rules.kind s by.class by.sub (walk_of (by.depth - 1) by.rules s n) rest (plain_walk by.rules s (by.depth - 1) n) (t + 1) 8 u (sym (ap (λ m. told_search (Err m)) (sym none) ∙ h))
 
-    module _ (u : ℕ) (h : refused 8 (tested u) ≡ first_in rules.kind s class sub (walk_of (depth - 1) rules s n) (t + 1)) where
-      ended : (first_in rules.kind s class sub (walk_of (depth - 1) rules s n ++ rest) (t + 1) ≡ first_in rules.kind s class sub rest u) × (u ≡ t + 1 + tests (walk_of (depth - 1) rules s n))
-      ended = first_absent rules.kind s class sub (walk_of (depth - 1) rules s n) rest (plain_walk rules s (depth - 1) n) (t + 1) 8 u (sym h)
-
-      pub enter_absent : first_in rules.kind s class sub (walk_from depth rules s d (left - 1) (d.total - (left - 1))) u ≡ first_in rules.kind s class sub (walk_from depth rules s d left (d.total - left)) t
+      pub enter_absent : found_from by s (i + 1) u ≡ r
       unfolding rest
-      enter_absent = sym (below ∙ ended.0)
+      enter_absent = sym (below ∙ ended.0) ∙ same
 
-      pub enter_count : depth ≤ 1 → u ≡ t + 1 + n.total
+      pub enter_count : by.depth ≤ 1 → u ≡ t + 1 + n.total
       unfolding tests
       enter_count one =
-          let z : depth - 1 ≡ 0 = omega arith in
-          let c : tests (walk_from (depth - 1) rules s n n.total 0) ≡ n.total = rw z (last_tests rules s n n.total 0) in
+          let z : by.depth - 1 ≡ 0 = omega arith in
+          let c : tests (walk_from (by.depth - 1) by.rules s n n.total 0) ≡ n.total = rw z (last_tests by.rules s n n.total 0) in
           omega (arith, ended.1, c)
 
+-- no entries are left
+pub found_none : (by : Search) (s : List ℕ) (i t : ℕ) {r : Reply ImageMatch} → found_from by s i t ≡ r → i ≡ by.directory.total → refused 8 (tested t) ≡ r
+unfolding entries_from first_in
+found_none by s i t same e = let z : by.directory.total - i ≡ 0 = omega arith in rw z at same
+
 -- all entries of a directory that is entered
-pub walk_whole : (depth : ℕ) (rules : Rules) (s : List ℕ) (d : Directory) (class sub t : ℕ) →
-    first_in rules.kind s class sub (walk_from depth rules s d d.total (d.total - d.total)) t ≡ first_in rules.kind s class sub (walk_of depth rules s d) t
+pub found_whole : (by : Search) (s : List ℕ) (t : ℕ) → found_from by s 0 t ≡ first_in by.rules.kind s by.class by.sub (walk_of by.depth by.rules s by.directory) t
 unfolding first_in
-walk_whole depth rules s d class sub t = let z : d.total - d.total ≡ 0 = omega arith in ap (λ (i : ℕ). first_in rules.kind s class sub (walk_from depth rules s d d.total i) t) z
+found_whole by s t = let z : by.directory.total - 0 ≡ by.directory.total = omega arith in ap (λ (m : ℕ). first_in by.rules.kind s by.class by.sub (walk_from by.depth by.rules s by.directory m 0) t) z
 
 -- an entry that is passed by, as the tests of its two bytes tell it
-pass_cases : (b1 b2 b3 : Bool) (r : Reply Directory) → is_pass (cond b1 probe.Match (cond b2 (cond b3 probe.Pass (entered r)) probe.Pass)) ≡ cond b1 false (cond b2 b3 true)
+pass_cases : (b1 b2 b3 : Bool) (r : Reply Directory) → is_pass (cond b1 (given probe.Match) (cond b2 (cond b3 (given probe.Pass) (entered r)) (given probe.Pass))) ≡ cond b1 false (cond b2 b3 true)
 pass_cases true b2 b3 r = refl
 pass_cases false false b3 r = refl
 pass_cases false true true r = refl
 pass_cases false true false (given n) = refl
 pass_cases false true false (refused number carried) = refl
 
-pass_is : (depth : ℕ) (rules : Rules) (s : List ℕ) (d : Directory) (class sub i : ℕ) → i < d.total →
-    is_pass (probe_of depth (seek rules class sub) s d i) ≡ cond (matches (entry_of rules.kind s d i) class sub) false (cond (eqb (entry_of rules.kind s d i).class rules.kind.lead) (eqb depth 0) true)
+pub pass_is : (by : Search) (s : List ℕ) (i : ℕ) → i < by.directory.total →
+    let e = entry_of by.rules.kind s by.directory i in
+    is_pass (probe_of by s i) ≡ cond (matches e by.class by.sub) false (cond (eqb e.class by.rules.kind.lead) (eqb by.depth 0) true)
 unfolding probed
-pass_is depth rules s d class sub i h =
-    ap (λ (r : Reply Entry). is_pass (probed_by (probed depth (seek rules class sub) s d i) r)) (all_entry rules.kind s d i h)
-    ∙ pass_cases (matches (entry_of rules.kind s d i) class sub) (eqb (entry_of rules.kind s d i).class rules.kind.lead) (eqb depth 0) (level_two_at rules s d i (entry_of rules.kind s d i))
+pass_is by s i h =
+    ap (λ (r : Reply Entry). is_pass (then r (probed by s i))) (all_entry by.rules.kind s by.directory i h)
+    ∙ pass_cases (matches (entry_of by.rules.kind s by.directory i) by.class by.sub) (eqb (entry_of by.rules.kind s by.directory i).class by.rules.kind.lead) (eqb by.depth 0) (level_two_at by.rules s by.directory i (entry_of by.rules.kind s by.directory i))
 
--- the same of the first of the last entries, by the place and the total that the directory told
-pub pass_left : (depth : ℕ) (rules : Rules) (s : List ℕ) (d : Directory) (class sub left : ℕ) (at : Offset) (n : ℕ) → at ≡ d.place → n ≡ d.total → 0 < left → left ≤ d.total →
-    let e = fields_at s (entry_place rules.kind at.0 (n - left)) in
-    is_pass (probe_of depth (seek rules class sub) s d (d.total - left)) ≡ cond (matches e class sub) false (cond (eqb e.class rules.kind.lead) (eqb depth 0) true)
-pass_left depth rules s d class sub left at n place total some few =
-    pass_is depth rules s d class sub (d.total - left) (omega arith)
-    ∙ sym (ap (λ (o : Offset). by (fields_at s (entry_place rules.kind o.0 (n - left)))) place ∙ ap (λ (m : ℕ). by (fields_at s (entry_place rules.kind d.place.0 (m - left)))) total)
-  where
-    by : Entry → Bool
-    by e = cond (matches e class sub) false (cond (eqb e.class rules.kind.lead) (eqb depth 0) true)
+pass_told : (q : Reply Probe) → is_pass q ≡ true → given probe.Pass ≡ q
+pass_told (given probe.Match) e = apart e refl
+pass_told (given probe.Pass) e = refl
+pass_told (given (probe.Enter n)) e = apart e refl
+pass_told (refused number carried) e = apart e refl
 
-not-true : false ≡ true → ⊥
-not-true e = let z : ◌≡◌ {A = ℕ} 0 1 = ap (λ (b : Bool). cond b 1 0) e in omega (arith, z)
+-- one more entry is passed by
+pub found_passed : (by : Search) (s : List ℕ) (from i t : ℕ) → from ≤ i → i < by.directory.total → is_pass (probe_of by s i) ≡ true → found_from by s i (t + (i - from)) ≡ found_from by s from t →
+    found_from by s (i + 1) (t + (i + 1 - from)) ≡ found_from by s from t
+found_passed by s from i t low more p h =
+    let e : t + (i + 1 - from) ≡ t + (i - from) + 1 = omega arith in
+    ap (found_from by s (i + 1)) e ∙ by_pass by s i (t + (i - from)) h more refl (pass_told (probe_of by s i) p)
 
-pub pass_told : (q : Probe) → is_pass q ≡ true → probe.Pass ≡ q
-pass_told probe.Match e = absurd (not-true e)
-pass_told probe.Pass e = refl
-pass_told (probe.Enter n) e = absurd (not-true e)
-pass_told (probe.Refused why) e = absurd (not-true e)
+-- what is `Ok` behind `map_err` was `Ok` before it
+pub opened : (x : Result Directory Fault) (d : Directory) (Q : Fault → Type 0) → true ≡ is_ok x → MatchResult x (λ y. ◌≡◌ {A = Result Directory (Missed Fault)} (Ok d) (Ok y)) Q → x ≡ Ok d
+opened (Ok y) d Q h m = cc
+opened (Err why) d Q h m = apart {b = true} refl h

@@ -1,12 +1,12 @@
 -- What the lookup in the whole image answers, as plain facts about the walk. Assumes nothing: these are statements.
 use Rattle.std.specs.Prelude.{ℕ, ◌+◌, ◌≤◌, ◌≡◌, List, [], ◌∷◌, ◌++◌}
-use Rattle.reply.specs.Reply.{Reply, Carried, given, refused, tested, OneToOne}
+use Rattle.reply.specs.Reply.{Reply, Carried, given, refused, tested, OneToOne, told_search}
 use Rattle.entries.specs.Good.{Matches}
 use Rattle.directory.specs.declared.Kind.{Kind}
 use Rattle.directory.specs.declared.Directory.{Directory}
 use Rattle.efs.specs.declared.Rules.{Rules}
 use Rattle.flash.specs.Flash.{flash_directory}
-use Rattle.walk.specs.Walk.{Step, enter, test, fault, walk_of, first_in, find_image, told_image_match}
+use Rattle.walk.specs.Walk.{Step, enter, test, fault, walk_of, first_in, find_image}
 use Rattle.walk.specs.declared.ImageMatch.{ImageMatch}
 
 -- the entries tested in some steps
@@ -85,4 +85,4 @@ pub record ImageLookup : Type 0 where
 
 -- no two answers of the lookup tell the same
 abbrev pub FoundApart : Type 0
-FoundApart = OneToOne told_image_match
+FoundApart = OneToOne (told_search {A = ImageMatch})

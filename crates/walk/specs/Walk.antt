@@ -1,6 +1,6 @@
 -- The lookup in the whole image: the walk through its directories as a list of steps, and the first match among them. Assumes nothing: these are definitions.
 use Rattle.std.specs.Prelude.{ℕ, zero, suc, ◌+◌, List, [], ◌∷◌, ◌++◌, cond, eqb}
-use Rattle.reply.specs.Reply.{Reply, Carried, given, refused, tested, carried_of, then}
+use Rattle.reply.specs.Reply.{Reply, Carried, given, refused, tested, then}
 use Rattle.entries.specs.Entry.{entry_of, matches}
 use Rattle.directory.specs.declared.Kind.{Kind}
 use Rattle.directory.specs.declared.Directory.{Directory}
@@ -8,8 +8,6 @@ use Rattle.efs.specs.declared.Rules.{Rules}
 use Rattle.entries.specs.declared.Entry.{Entry}
 use Rattle.flash.specs.Flash.{level_two_at, flash_directory, from_lookup}
 use Rattle.walk.specs.declared.ImageMatch.{ImageMatch}
-use Rattle.walk.specs.declared.ImageMatchAnswer.{ImageMatchAnswer}
-use Rattle.walk.specs.declared.ImageMatchAnswer.TheVariants as image_match_answer
 
 -- a step of a walk: a directory is entered, entry i of a directory is tested, or what an entry leads to is refused
 pub data Step : Type 0 where
@@ -56,9 +54,3 @@ first_in kind image class sub (fault number carried ∷ steps) t = refused numbe
 -- the lookup in the whole image: level one, with one level below it
 abbrev pub find_image : Rules → (image : List ℕ) → (class sub : ℕ) → Reply ImageMatch
 find_image r image class sub = then (from_lookup (flash_directory r 1 image)) (λ d. first_in r.kind image class sub (walk_of 1 r image d) 0)
-
--- what the answer tells
-abbrev pub told_image_match : ImageMatchAnswer → Reply ImageMatch
-told_image_match (image_match_answer.Given f) = given f
-told_image_match (image_match_answer.Absent n) = refused 8 (tested n)
-told_image_match (image_match_answer.Refused why) = refused why.number (carried_of why.met)

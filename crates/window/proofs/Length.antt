@@ -1,13 +1,13 @@
 -- What comes after the test of an image's length. Assumes nothing.
-use mathlib.Core.Path.{◌≡◌, refl, sym, ◌∙◌}
+use mathlib.Core.Path.{◌≡◌}
 use mathlib.Core.List.{List}
-use mathlib.Core.Bool.{Bool, true, false, and-eq-true_iff}
+use mathlib.Core.Bool.{true, and-eq-true_iff}
 use Prim.Native.Nat.{ℕ}
 use borrow.Author.Tests.{leb-true, le-leb}
 use lib.ListN.{length}
 use lib.Dec.{leb}
-use Rattle.reply.specs.Reply.{Reply, given, refused, alone, guard, then}
-use Rattle.reply.proofs.ReplyLaws.{past, passed, failed}
+use Rattle.reply.specs.Reply.{Reply, given}
+use Rattle.reply.proofs.ReplyLaws.{past, passed}
 use Rattle.window.specs.Length.{longest, length_allowed, sized}
 use Rattle.window.specs.Inside.{GoodLength}
 
@@ -23,18 +23,3 @@ sized_passed s rest z = passed _ _ _ _ (allowed_test s z)
 
 pub sized_past : {A : Type 0} {a : A} (s : List ℕ) (rest : Reply A) → sized s rest ≡ given a → GoodLength s × (rest ≡ given a)
 sized_past s rest e = let g = past (length_allowed s) _ _ _ e in (allowed_fact s g.0, g.1)
-
--- what comes after a step comes after the test
-pub sized_then : {A : Type 0} {B : Type 0} (s : List ℕ) (rest : Reply A) (next : A → Reply B) → then (sized s rest) next ≡ sized s (then rest next)
-sized_then s rest next = by (length_allowed s)
-  where
-    by : (b : Bool) → then (guard b 15 rest) next ≡ guard b 15 (then rest next)
-    by true = refl
-    by false = refl
-
--- as the code comes to it
-pub sized_on : {A : Type 0} {x : Reply A} (s : List ℕ) (rest : Reply A) (b : Bool) → b ≡ length_allowed s → b ≡ true → x ≡ rest → x ≡ sized s rest
-sized_on s rest b e t q = q ∙ sym (passed _ _ _ _ (sym e ∙ t))
-
-pub sized_off : {A : Type 0} (s : List ℕ) (rest : Reply A) (b : Bool) → b ≡ length_allowed s → b ≡ false → refused 15 alone ≡ sized s rest
-sized_off s rest b e t = sym (failed _ _ _ _ (sym e ∙ t))

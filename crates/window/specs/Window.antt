@@ -1,9 +1,7 @@
 -- Flash offsets, x86 physical addresses, the window that leads from one to the other, and a place within an image. Assumes nothing: these are definitions.
 use Rattle.std.specs.Prelude.{ℕ, ◌-◌, List, cond, length, leb}
-use Rattle.reply.specs.Reply.{Reply, given, refused, alone, guard}
+use Rattle.reply.specs.Reply.{Reply, given, guard}
 use Rattle.window.specs.declared.Offset.{Offset}
-use Rattle.window.specs.declared.OffsetAnswer.{OffsetAnswer}
-use Rattle.window.specs.declared.OffsetAnswer.TheVariants as offset_answer
 
 -- where every window ends
 abbrev pub four_gib : ℕ
@@ -31,8 +29,3 @@ nearest_to place = record { 0 = cond (leb place 0xFFFF_FFFF) place 0xFFFF_FFFF }
 -- a place beyond the image: 7
 abbrev pub within : {A : Type 0} → (image : List ℕ) → (place : ℕ) → (rest : Reply A) → Reply A
 within image place rest = guard (leb place (length image)) 7 rest
-
--- what the conversion's answer tells
-abbrev pub told_offset : OffsetAnswer → Reply Offset
-told_offset (offset_answer.Given o) = given o
-told_offset (offset_answer.Refused why) = refused why.number alone

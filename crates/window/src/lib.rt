@@ -2,27 +2,23 @@
 // Every place in an image is told by an offset.
 #![tactic(auto)]
 
-ghost use Rattle.std.specs.Prelude.{◌≡◌, length, leb};
-ghost use Rattle.reply.specs.Reply.{given};
-ghost use Rattle.window.specs.Window.{window_start, offset_in, nearest_to, within, told_offset};
+ghost use Rattle.std.specs.Prelude.{◌≡◌};
+ghost use Rattle.reply.specs.Reply.{given, told_alone};
+ghost use Rattle.window.specs.Window.{window_start, offset_in, nearest_to, within};
 ghost use Rattle.window.specs.Length.{length_allowed};
 
+mod image;
+
+pub use image::Image;
 use reply::Refusal;
 
 // A place in a flash image, counted from its first byte.
-#[derive(Clone, Copy)]
+#[derive(Clone, Copy, Debug, PartialEq, Eq, PartialOrd, Ord)]
 pub struct Offset(pub u32);
 
 // A place in the x86 physical address space.
-#[derive(Clone, Copy)]
+#[derive(Clone, Copy, Debug, PartialEq, Eq, PartialOrd, Ord)]
 pub struct Physical(pub u64);
-
-// What is asked for an offset answers: an offset, or why there is none.
-#[derive(Clone, Copy)]
-pub enum OffsetAnswer {
-    Given(Offset),
-    Refused(Refusal),
-}
 
 impl Offset {
     // The bytes of the longest image.
@@ -32,21 +28,17 @@ impl Offset {
     pub fn nearest(place: usize) -> Offset
         ensures { result ≡ nearest_to place }
     {
-        if place <= 0xFFFF_FFFF {
-            Offset(place as u32)
-        } else {
-            Offset(0xFFFF_FFFF)
-        }
+        Offset(u32::try_from(place).unwrap_or(u32::MAX))
     }
 
     // The offset, where it does not lie beyond an image.
-    pub fn within(self, image: &[u8]) -> OffsetAnswer
-        ensures { told_offset result ≡ within image.now self.0 (given self) }
+    pub fn within(self, image: &[u8]) -> Result<Offset, Refusal>
+        ensures { told_alone result ≡ within image.now self.0 (given self) }
     {
         if (self.0 as usize) <= image.len() {
-            OffsetAnswer::Given(self)
+            Ok(self)
         } else {
-            OffsetAnswer::Refused(Refusal::OUTSIDE)
+            Err(Refusal::Outside)
         }
     }
 }
@@ -55,36 +47,26 @@ impl Offset {
 pub fn length_allowed(image: &[u8]) -> bool
     ensures { result ≡ length_allowed image.now }
 {
-    if image.len() < 1 {
-        return false;
-    }
-    image.len() <= Offset::LONGEST
+    1 <= image.len() && image.len() <= Offset::LONGEST
 }
 
 // Where a window of so many bytes begins: each ends at 4 GiB, and none begins below 0.
 fn window_start(window: usize) -> u64
     ensures { result ≡ window_start window }
 {
-    let bytes = window as u64;
-    if 0x1_0000_0000 < bytes {
-        return 0;
-    }
-    0x1_0000_0000 - bytes
+    0x1_0000_0000_u64.saturating_sub(window as u64)
 }
 
 impl Physical {
     // The flash offset that a window of so many bytes below 4 GiB gives this address.
-    pub fn offset(self, window: usize) -> OffsetAnswer
-        ensures { told_offset result ≡ offset_in window self.0 }
+    #[tactic(auto, using(crate::proofs::Cases::below, crate::proofs::Cases::above, crate::proofs::Cases::shown))]
+    pub fn offset(self, window: usize) -> Result<Offset, Refusal>
+        ensures { told_alone result ≡ offset_in window self.0 }
     {
-        let a = self.0;
         let first = window_start(window);
-        if a < first {
-            return OffsetAnswer::Refused(Refusal::OUTSIDE);
+        if self.0 < first || 0xFFFF_FFFF < self.0 {
+            return Err(Refusal::Outside);
         }
-        if 0xFFFF_FFFF < a {
-            return OffsetAnswer::Refused(Refusal::OUTSIDE);
-        }
-        OffsetAnswer::Given(Offset((a - first) as u32))
+        Ok(Offset((self.0 - first) as u32))
     }
 }

@@ -1,30 +1,16 @@
 -- What the answers tell, and by which number. Assumes nothing.
-use mathlib.Core.Path.{◌≡◌, refl, sym, ap}
+use mathlib.Core.Path.{◌≡◌, refl, sym}
 use mathlib.Core.Bool.{Bool, true, false, cond}
 use Prim.Native.Nat.{ℕ, ◌+◌}
 use borrow.Author.Tests.{eqb-true}
 use lib.ListN.{length}
 use lib.Dec.{leb, eqb}
-use Rattle.reply.specs.Reply.{Reply, given, refused}
-use Rattle.reply.specs.Back.{fault_by}
-use Rattle.reply.proofs.ReplyLaws.{one_by, fault_back}
-use Rattle.wrong.specs.Wrong.{told_wrong}
+use Rattle.reply.proofs.Told.{told_one}
 use Rattle.wrong.specs.Told.{ToldApart, SameNumber}
 use Rattle.wrong.specs.declared.WrongField.{WrongField}
-use Rattle.wrong.specs.declared.WrongAnswer.{WrongAnswer}
-use Rattle.wrong.specs.declared.WrongAnswer.TheVariants as wrong_answer
-
-wrong_back : Reply WrongField → WrongAnswer
-wrong_back (given w) = wrong_answer.Given w
-wrong_back (refused number carried) = wrong_answer.Refused (fault_by number carried)
-
-wrong_back_lem : (x : WrongAnswer) → wrong_back (told_wrong x) ≡ x
-unfolding wrong_back
-wrong_back_lem (wrong_answer.Given w) = refl
-wrong_back_lem (wrong_answer.Refused why) = ap (λ w. wrong_answer.Refused w) (fault_back why)
 
 pub told_apart : ToldApart
-told_apart = one_by told_wrong wrong_back wrong_back_lem
+told_apart = told_one
 
 -- one of two, by a test
 by_test : {n : ℕ} (b : Bool) (x y : WrongField) → (b ≡ true → x.number ≡ n) → y.number ≡ n → (cond b x y).number ≡ n

@@ -2,7 +2,7 @@
 use Rattle.std.specs.Prelude.{ℕ, ◌+◌, ◌*◌, ◌-◌, List, [], ◌∷◌, cond, length, leb, eqb}
 use Rattle.le.specs.Le.{bits_below}
 use Rattle.le.specs.Field.{Field, get}
-use Rattle.reply.specs.Reply.{Reply, Carried, given, refused, alone, tested, in_header, in_entry, carried_of, guard}
+use Rattle.reply.specs.Reply.{Reply, Carried, given, refused, alone, tested, in_header, in_entry, guard}
 use Rattle.window.specs.Length.{sized}
 use Rattle.window.specs.Window.{within}
 use Rattle.directory.specs.Header as header
@@ -14,8 +14,6 @@ use Rattle.entries.specs.Entry.{fields_at}
 use Rattle.entries.specs.Part.{part_in}
 use Rattle.efs.specs.declared.Rules.{Rules}
 use Rattle.wrong.specs.declared.WrongField.{WrongField}
-use Rattle.wrong.specs.declared.WrongAnswer.{WrongAnswer}
-use Rattle.wrong.specs.declared.WrongAnswer.TheVariants as wrong_answer
 
 -- the level whose cookie is asked for: where none was found, level one's
 abbrev pub asked : (level : ℕ) → ℕ
@@ -84,8 +82,3 @@ wrong_at r image place level i = guard (leb level 2) 9 (sized image (within imag
 -- as five words
 abbrev pub lay_wrong : WrongField → List ℕ
 lay_wrong w = w.number ∷ w.field ∷ w.bytes ∷ w.stands ∷ w.should ∷ []
-
--- what the answer tells
-abbrev pub told_wrong : WrongAnswer → Reply WrongField
-told_wrong (wrong_answer.Given w) = given w
-told_wrong (wrong_answer.Refused why) = refused why.number (carried_of why.met)

@@ -229,16 +229,26 @@ mod tests {
         declared.collect()
     }
 
-    /// The refusals that the library has, by name.
-    pub(crate) fn numbers_of_library() -> BTreeMap<&'static str, u64> {
-        constants_of(include_str!("../../../crates/reply/src/lib.rt"))
+    /// The refusals that the library has, by name: its enum has a line for each, as `Short = 1,`.
+    pub(crate) fn numbers_of_library() -> BTreeMap<String, u64> {
+        let declared = include_str!("../../../crates/reply/src/lib.rt")
+            .lines()
+            .filter_map(|line| {
+                let (name, number) = line.trim().strip_suffix(',')?.split_once(" = ")?;
+                Some((name.to_ascii_uppercase(), number.parse().ok()?))
+            });
+        declared.collect()
     }
 
     #[test]
     fn refusals_have_the_names_and_numbers_of_the_library() {
         let library = numbers_of_library();
         assert_eq!(library.get("SHORT"), Some(&1));
-        assert_eq!(constants_of(include_str!("answer.rs")), library);
+        let here = constants_of(include_str!("answer.rs"));
+        let named = here
+            .iter()
+            .map(|(name, number)| ((*name).to_owned(), *number));
+        assert_eq!(named.collect::<BTreeMap<_, _>>(), library);
     }
 
     #[test]

@@ -45,11 +45,15 @@ fn refusals_have_the_names_and_numbers_of_the_library() {
     let library = answer::numbers_of_library();
     assert_eq!(library.len(), 18);
     for (name, number) in &library {
-        assert_eq!(names.get(name), Some(number), "{name}");
+        assert_eq!(names.get(name.as_str()), Some(number), "{name}");
     }
     assert_eq!(names["ACCEPTED"], 0);
     // No number has a second name: what is not a refusal's is a count of words, what it was met in, or the version.
-    let refusals: BTreeSet<&str> = library.keys().copied().chain(["ACCEPTED"]).collect();
+    let refusals: BTreeSet<&str> = library
+        .keys()
+        .map(String::as_str)
+        .chain(["ACCEPTED"])
+        .collect();
     let others = names.keys().filter(|name| !refusals.contains(*name));
     for name in others {
         let known = ["_WORDS", "_VALUES"].iter().any(|end| name.ends_with(end))

@@ -1,11 +1,8 @@
-use mathlib.Core.Path.{◌≡◌}
-use mathlib.Core.List.{[], ◌∷◌}
 use Prim.Native.Nat.{◌+◌, ◌*◌, ◌≤◌}
 use native.Mathlib.Omega.{arith}
 use lib.ListN.{length}
 use Rattle.lent.proofs.Laws.{number_12, words_12}
 use Rattle.efs.specs.Rules.{rules_of}
-use Rattle.flash_words.specs.Images.{lay_directory}
 use Rattle.all_entries.specs.AllEntries.{lay_entries}
 use Rattle.all_entries.proofs.Rows.{entries_long, entries_number, entries_words}
 use Rattle.all_entries.proofs.put_entries.Goals as goal
@@ -14,15 +11,13 @@ pub returns-then-words-total : goal.returns-then-words-total
 returns-then-words-total c = let a = c.args in
     let s = a.image.now in
     let laid = lay_entries (rules_of s) s a.d in
-    let long = entries_long (rules_of s) s a.d in record { value = number_12 laid a.words.now 0 (omega (arith, long)); words_after = words_12 laid a.words.now (omega (arith, long)) }
+    let long = entries_long (rules_of s) s a.d in
+    record { value = number_12 laid a.words.now 0 (omega (arith, long)); words_after = words_12 laid a.words.now (omega (arith, long)) }
 
 pub returns : goal.returns
-returns c = let l = c in
-    let w = l in
-    let t = w in
-    let start = t in
-    let a = start.args in
+returns c = let a = c.args in
     let s = a.image.now in
-    let head : _ ≡ lay_directory a.d = λ j. (l.place-place.ensures j).0 ∷ l.level-level.ensures j ∷ t.total-total.ensures j ∷ [] in
-    let room : 3 + 8 * a.d.total ≤ length a.words.now = omega (arith, w.if-words-total.false) in
-    let put = c.put.ensures in record { value = entries_number (rules_of s) s a.d a.words.now room _ _ head w.put_rows.ensures _ put.value; words_after = entries_words (rules_of s) s a.d a.words.now room _ _ head w.put_rows.ensures _ put.words_after }
+    let room : 3 + 8 * a.d.total ≤ length a.words.now = omega arith in
+    let head = c.directory_words.ensures in
+    let put = c.put.ensures in
+    record { value = entries_number (rules_of s) s a.d a.words.now room _ _ head c.put_rows.ensures _ put.value; words_after = entries_words (rules_of s) s a.d a.words.now room _ _ head c.put_rows.ensures _ put.words_after }

@@ -10,9 +10,6 @@ use Rattle.all_entries.proofs.put_rows.Goals as goal
 pub loop-i-init : goal.loop-i-init
 loop-i-init c = let a = c.args in (omega arith, refl, filled_none (rules_of a.image.now) a.image.now a.d a.words.now)
 
-pub loop-i-smaller : goal.loop-i-smaller
-loop-i-smaller c = omega arith
-
 pub loop-i-preserved : goal.loop-i-preserved
 loop-i-preserved c = let l = c in
     let start = l in

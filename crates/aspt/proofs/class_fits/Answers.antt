@@ -1,15 +1,8 @@
-use Rattle.aspt.specs.Rules.{fresh}
-use mathlib.Core.Bool.{and-true}
-use borrow.Author.Tests.{le-leb, lt-leb, eq-eqb, ne_eqb}
+use borrow.Author.Tests.{le-leb}
+use mathlib.Core.Path.{ap, ◌∙◌}
+use mathlib.Core.Bool.{not}
+use Rattle.aspt.proofs.Checks.{fresh_by}
 use Rattle.aspt.proofs.class_fits.Goals as goal
 
-pub returns-then-also-class : goal.returns-then-also-class
-unfolding fresh
-returns-then-also-class c = simp (le-leb _ _ c.if-class-le-ACPI.true, eq-eqb _ _ c.if-also-class.true)
-
-pub returns-else-also-class : goal.returns-else-also-class
-unfolding fresh
-returns-else-also-class c = simp (le-leb _ _ c.if-class-le-ACPI.true, ne_eqb _ _ c.if-also-class.false, and-true)
-
-pub returns-else-class-le-ACPI : goal.returns-else-class-le-ACPI
-returns-else-class-le-ACPI c = simp (lt-leb _ _ c.if-class-le-ACPI.false)
+pub returns-then-class-le-ACPI : goal.returns-then-class-le-ACPI
+returns-then-class-le-ACPI c = rw (le-leb _ _ c.if-class-le-ACPI.true) (ap not c.contains.ensures.value ∙ fresh_by c.args.seen.now c.args.class)

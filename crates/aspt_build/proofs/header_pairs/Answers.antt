@@ -1,12 +1,14 @@
-use Rattle.aspt_build.proofs.SumLaws.{header_is}
-use native.Mathlib.Omega.{arith}
+use mathlib.Core.Path.{ap, ◌∙◌}
+use Prim.Native.Nat.{ℕ, ◌+◌}
 use borrow.Author.Rules.{rules}
+use Rattle.le.specs.Le.{le_bytes}
+use Rattle.aspt.specs.Rules.{sum_of}
+use Rattle.aspt_build.proofs.SumLaws.{header_is}
 use Rattle.aspt_build.proofs.header_pairs.Goals as goal
 
-pub returns : goal.returns
-returns c = let oem = c.joined_pairs.ensures in
-    let table = c.pairs.ensures in
-    let maker = c.joined_pairs-2.ensures in
-    let revision = c.joined_pairs-3.ensures in
-    let base = c.pairs-2.ensures in
-    let pages = c.joined_pairs-4.ensures in record { result_value = header_is c.args.t (search rules) _ _ _ _ _ _ oem.result_value table.result_value maker.result_value revision.result_value base.result_value pages.result_value; upper_bound = omega (arith, oem.upper_bound, table.upper_bound, maker.upper_bound, revision.upper_bound, base.upper_bound, pages.upper_bound) }
+pub returns-clause-result_value : goal.returns-clause-result_value
+returns-clause-result_value c =
+    let t = c.args.t in
+    let high = ap (λ (x : ℕ). sum_of (le_bytes 4 t.oem_low) + sum_of (le_bytes 4 x)) c.from.ensures in
+    header_is t (search rules) _ _ _ _ _ _ (c.joined_pairs.ensures.result_value ∙ high) c.pairs.ensures.result_value
+    c.joined_pairs-2.ensures.result_value c.joined_pairs-3.ensures.result_value c.pairs-2.ensures.result_value c.joined_pairs-4.ensures.result_value

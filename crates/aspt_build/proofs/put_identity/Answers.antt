@@ -8,6 +8,7 @@ use Rattle.aspt_build.proofs.put_identity.Goals as goal
 
 pub returns : goal.returns
 unfolding bytes_of le_bytes
-returns c = let a = c.args in
+returns c =
+    let a = c.args in
     put_next _ _ c.put8-2.ensures (put_next _ _ c.put8.ensures (put_next _ _ c.put32-2.ensures c.put32.ensures))
-    ∙ puts_all (identity_fields a.sum) a.buf.now 0 (omega (arith, c.requires))
+    ∙ puts_all (identity_fields a.sum) a.buf.now 0 (omega arith)

@@ -8,6 +8,7 @@ use Rattle.aspt_build.proofs.put_maker.Goals as goal
 
 pub returns : goal.returns
 unfolding bytes_of le_bytes
-returns c = let a = c.args in
+returns c =
+    let a = c.args in
     put_next _ _ c.put32-4.ensures (put_next _ _ c.put32-3.ensures (put_next _ _ c.put32-2.ensures (put_next _ _ c.put64.ensures (put_next _ _ c.put16.ensures c.put32.ensures))))
-    ∙ puts_all (maker_fields a.table) a.buf.now 10 (omega (arith, c.requires))
+    ∙ puts_all (maker_fields a.table) a.buf.now 10 (omega arith)

@@ -8,6 +8,7 @@ use Rattle.aspt_build.proofs.put_space.Goals as goal
 
 pub returns : goal.returns
 unfolding bytes_of le_bytes
-returns c = let a = c.args in
+returns c =
+    let a = c.args in
     put_next _ _ c.put32-2.ensures (put_next _ _ c.put32.ensures c.put64.ensures)
-    ∙ puts_all (space_fields a.table) a.buf.now 36 (omega (arith, c.requires))
+    ∙ puts_all (space_fields a.table) a.buf.now 36 (omega arith)

@@ -9,13 +9,13 @@ use borrow.Author.Rules.{rules}
 use Rattle.aspt_build.proofs.put_structure.Goals as goal
 
 -- a structure's bytes, as the code writes them
-
 abbrev fields : ℕ → ℕ → ℕ → List Number
 fields front two third = filled (field 8 0) front ∷ filled (field 8 8) two ∷ filled (field 4 16) third ∷ []
 
 pub returns : goal.returns
 unfolding bytes_of le_bytes
-returns c = let a = c.args in
+returns c =
+    let a = c.args in
     put_next _ _ c.put32.ensures (put_next _ _ c.put64-2.ensures c.put64.ensures)
     ∙ puts_fill (fields c.front.result c.joined.result a.st.third) a.part.now (sym c.requires)
     ∙ (λ i. bytes_of (fields (c.front.ensures i) (c.joined.ensures i) a.st.third))

@@ -1,23 +1,20 @@
-use Rattle.aspt.specs.Calls.{told_check}
-use Rattle.aspt_build.specs.Write.{write_of, written_by}
-use Rattle.aspt.specs.Rules.{done}
-use Rattle.reply.proofs.ReplyLaws.{passed, failed, then_told}
-use Rattle.reply.specs.Reply.{alone}
-use borrow.Author.Tests.{le-leb, lt-leb}
+use borrow.Author.Tests.{le-leb}
+use lib.Dec.{leb}
+use lib.ListN.{length, drop}
+use mathlib.Core.List.{List, ◌++◌}
 use mathlib.Core.Path.{sym, ap, ◌∙◌}
+use Prim.Native.Nat.{ℕ}
+use Rattle.reply.specs.Reply.{Reply, alone, guard, then}
+use Rattle.reply.proofs.ReplyLaws.{passed}
+use Rattle.aspt.specs.Rules.{done}
+use Rattle.aspt_build.specs.Write.{write_of, written_by}
 use Rattle.aspt_build.proofs.write.Goals as goal
 
-pub returns-then-buf-lt-LENGTH : goal.returns-then-buf-lt-LENGTH
+pub returns : goal.returns
 unfolding write_of
-returns-then-buf-lt-LENGTH c = let a = c.args in
-    let e = sym (failed _ 12 alone done (lt-leb _ _ c.if-buf-lt-LENGTH.true)) ∙ then_told told_check _ c.in-Accepted.is c.admit.ensures in record { result_value = e; buf_after = ap (written_by a.table a.buf.now) e }
-
-pub returns-in-Refused : goal.returns-in-Refused
-unfolding write_of
-returns-in-Refused c = let a = c.args in
-    let e = then_told told_check _ c.in-Refused.is c.admit.ensures in record { result_value = e; buf_after = ap (written_by a.table a.buf.now) e }
-
-pub returns-else-buf-lt-LENGTH : goal.returns-else-buf-lt-LENGTH
-unfolding write_of
-returns-else-buf-lt-LENGTH c = let a = c.args in
-    let e = sym (passed _ 12 alone done (le-leb _ _ c.if-buf-lt-LENGTH.false)) ∙ then_told told_check _ c.in-Accepted.is c.admit.ensures in record { result_value = e; buf_after = c.put_table.ensures ∙ ap (written_by a.table a.buf.now) e }
+returns c =
+    let t = c.args.table in
+    let s = c.args.buf.now in
+    let room = guard (leb 112 (length s)) 12 done in
+    let e = sym (passed _ 12 alone done (le-leb _ _ c.in-Some.ensures.cases.enough)) ∙ ap (λ (r : Reply Unit). then r (λ _. room)) c.in_ok-admit.ensures in
+    record { result_value = e; buf_after = ap (λ (bytes : List ℕ). bytes ++ drop 112 s) c.put_table.ensures ∙ ap (written_by t s) e }

@@ -1,10 +1,6 @@
-use Prim.Native.Nat.{◌-◌, ◌/◌, ◌≤◌}
-use lib.ListN.{length}
-use Rattle.fletcher.specs.Run.{Folded}
+use mathlib.Core.Path.{◌≡◌}
+use Rattle.fletcher.proofs.Run.{SoFar}
 use Rattle.fletcher.proofs.fletcher.Given as goal
 
-abbrev pub invariant-loop-i : goal.invariant-loop-i
-invariant-loop-i l = (l.i ≤ length l.s / 2) × Folded l.s l.i l.t
-
-abbrev pub decreases-loop-i : goal.decreases-loop-i
-decreases-loop-i l = length l.s / 2 - l.i
+abbrev pub invariant-loop-run : goal.invariant-loop-run
+invariant-loop-run l = (l.run-iterator.size ≡ 718) × SoFar l.s l.run-iterator.rest.now l.sums

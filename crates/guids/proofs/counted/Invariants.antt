@@ -1,13 +1,17 @@
 use mathlib.Core.Path.{◌≡◌}
 use Prim.Native.Nat.{◌+◌, ◌≤◌}
 use lib.ListN.{length}
-use Rattle.reply.specs.Reply.{given, then}
+use Rattle.reply.specs.Reply.{then}
 use Rattle.guids.specs.Table.{entries_before}
 use Rattle.guids.proofs.Walk.{count_from}
 use Rattle.guids.proofs.counted.Given as goal
 
-abbrev pub invariant-loop-left : goal.invariant-loop-left
-invariant-loop-left l = (l.left ≤ l.end) × (l.end ≤ length l.image) × (l.count + l.left ≤ l.bytes) × (then (entries_before l.image l.end l.left) (count_from l.count) ≡ then (entries_before l.image l.from l.bytes) (λ entries. given (length entries)))
+abbrev pub invariant-loop-end : goal.invariant-loop-end
+invariant-loop-end l = record {
+  within : l.end ≤ length l.entries;
+  few : l.count + l.end ≤ length l.entries;
+  same : then (entries_before l.entries l.end l.end) (count_from l.count) ≡ then (entries_before l.entries (length l.entries) (length l.entries)) (count_from 0);
+}
 
-abbrev pub decreases-loop-left : goal.decreases-loop-left
-decreases-loop-left l = l.left
+abbrev pub decreases-loop-end : goal.decreases-loop-end
+decreases-loop-end l = l.end

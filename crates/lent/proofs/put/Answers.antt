@@ -1,20 +1,7 @@
-use borrow.Author.Rules.{rules}
 use native.Mathlib.Omega.{arith}
-use mathlib.Core.Path.{refl}
-use Rattle.lent.proofs.Laws.{number_12, words_12, number_fits, copy_step, copy_end}
+use mathlib.Core.Path.{◌∙◌}
+use Rattle.lent.proofs.Laws.{words_copied}
 use Rattle.lent.proofs.put.Goals as goal
 
-pub returns-then-words-values : goal.returns-then-words-values
-returns-then-words-values c = record { value = search number_12; words_after = search words_12 }
-
-pub loop-i-init : goal.loop-i-init
-loop-i-init c = (omega arith, omega arith, refl, refl)
-
-pub loop-i-smaller : goal.loop-i-smaller
-loop-i-smaller c = omega arith
-
-pub loop-i-preserved : goal.loop-i-preserved
-loop-i-preserved c = (omega arith, omega arith, search rules, search (rules, copy_step))
-
-pub returns : goal.returns
-returns c = record { value = search (rules, number_fits); words_after = search (rules, copy_end) }
+pub returns-clause-words_after : goal.returns-clause-words_after
+returns-clause-words_after c = let l = c.loop-i in l.invariant.2 ∙ words_copied c.args.values.now c.args.words.now l.i (omega arith) (omega arith)

@@ -1,20 +1,13 @@
+use mathlib.Core.Path.{sym, ◌∙◌}
 use borrow.Author.Rules.{rules}
-use native.Mathlib.Omega.{arith}
-use mathlib.Core.Path.{refl}
-use Rattle.mailbox.proofs.ConsistentLaws.{fit_step, fit_stop, fit_end}
+use borrow.Author.Tests.{tests}
+use Rattle.std.proofs.lemmas.Iterator.{YieldsList-from_slice}
+use Rattle.std.proofs.lemmas.Iterator.Search.{all_from_yields_List}
+use Rattle.mailbox.specs.Consistent.{post_fits}
+use Rattle.mailbox.proofs.ConsistentLaws.{posts_fit_all}
 use Rattle.mailbox.proofs.posts_fit.Goals as goal
 
-pub loop-i-init : goal.loop-i-init
-loop-i-init c = (omega arith, refl)
-
-pub loop-i-smaller : goal.loop-i-smaller
-loop-i-smaller c = omega arith
-
-pub loop-i-preserved : goal.loop-i-preserved
-loop-i-preserved c = (omega arith, search (rules, fit_step))
-
-pub returns-else-fits : goal.returns-else-fits
-returns-else-fits c = search (rules, fit_stop)
-
 pub returns : goal.returns
-returns c = search (rules, fit_end)
+returns c =
+    all_from_yields_List post_fits _ _ _ c.all.ensures.ran (YieldsList-from_slice c.args.posts.now cc) (λ x b q k. search (rules, tests))
+    ∙ sym (posts_fit_all c.args.posts.now)

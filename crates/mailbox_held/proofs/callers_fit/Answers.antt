@@ -1,59 +1,16 @@
+use mathlib.Core.Path.{refl, sym, ◌∙◌}
 use borrow.Author.Rules.{rules}
-use native.Mathlib.Omega.{arith}
-use mathlib.Core.Path.{refl}
-use Rattle.mailbox.proofs.ConsistentLaws.{all_end}
-use Rattle.mailbox_held.proofs.FitLaws.{callers_step, callers_stop}
+use borrow.Author.Tests.{tests}
+use mathlib.Core.List.{map}
+use Rattle.std.proofs.lemmas.Iterator.{YieldsList-from_range}
+use Rattle.std.proofs.lemmas.Iterator.Search.{all_from_yields_List}
+use Rattle.mailbox.specs.Consistent.{caller_fits}
+use Rattle.mailbox.proofs.ConsistentLaws.{all_below_all}
+use Rattle.mailbox_layout.specs.Layout.{post_from, place_from}
 use Rattle.mailbox_held.proofs.callers_fit.Goals as goal
 
-pub loop-caller-init : goal.loop-caller-init
-loop-caller-init c = (omega arith, refl)
-
-pub returns-then-times_in-holds : goal.returns-then-times_in-holds
-returns-then-times_in-holds c = let a = c.args in
-    let l = c.loop-caller in
-    callers_stop
-    a.words.now
-    a.n
-    a.register
-    l.caller
-    l.invariant.0
-    c.loop-caller-test.true
-    c.place_from-place.result
-    c.place_from-place.ensures
-    c.times_in.result
-    c.holds.result
-    c.waits.result
-    c.times_in.ensures.value
-    c.holds.ensures.value
-    c.waits.ensures
-    l.invariant.1
-    c.if-times_in-holds.true
-
-pub loop-caller-smaller : goal.loop-caller-smaller
-loop-caller-smaller c = omega arith
-
-pub loop-caller-preserved : goal.loop-caller-preserved
-loop-caller-preserved c = let a = c.args in
-    let l = c.loop-caller in (
-      omega arith,
-      callers_step
-          a.words.now
-          a.n
-          a.register
-          l.caller
-          l.invariant.0
-          c.loop-caller-test.true
-          c.place_from-place.result
-          c.place_from-place.ensures
-          c.times_in.result
-          c.holds.result
-          c.waits.result
-          c.times_in.ensures.value
-          c.holds.ensures.value
-          c.waits.ensures
-          l.invariant.1
-          c.if-times_in-holds.false,
-    )
-
 pub returns : goal.returns
-returns c = search (rules, all_end)
+returns c =
+    let fit = caller_fits (map post_from c.args.line.now) c.args.register (map place_from c.args.places.now) in
+    all_from_yields_List fit _ _ c.all.result c.all.ensures.ran (YieldsList-from_range 0 8 8 refl refl) (λ x b q k. search (rules, tests))
+    ∙ sym (all_below_all 8 fit)

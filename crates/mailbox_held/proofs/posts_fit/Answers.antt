@@ -1,21 +1,14 @@
+use mathlib.Core.Path.{sym, ◌∙◌}
 use borrow.Author.Rules.{rules}
-use native.Mathlib.Omega.{arith}
-use mathlib.Core.Path.{refl}
-use Rattle.mailbox.proofs.ConsistentLaws.{fit_end}
-use Rattle.mailbox_held.proofs.FitLaws.{posts_step, posts_stop}
+use borrow.Author.Tests.{tests}
+use Rattle.std.proofs.lemmas.Iterator.{YieldsList-from_slice}
+use Rattle.std.proofs.lemmas.Iterator.Search.{all_from_yields_List}
+use Rattle.mailbox.specs.Consistent.{post_fits}
+use Rattle.mailbox_layout.specs.Layout.{post_from}
+use Rattle.mailbox_held.proofs.FitLaws.{posts_all}
 use Rattle.mailbox_held.proofs.posts_fit.Goals as goal
 
-pub loop-i-init : goal.loop-i-init
-loop-i-init c = (omega arith, refl)
-
-pub loop-i-smaller : goal.loop-i-smaller
-loop-i-smaller c = omega arith
-
-pub loop-i-preserved : goal.loop-i-preserved
-loop-i-preserved c = (omega arith, search (rules, posts_step))
-
-pub returns-else-fits : goal.returns-else-fits
-returns-else-fits c = search (rules, posts_stop)
-
 pub returns : goal.returns
-returns c = search (rules, fit_end)
+returns c =
+    all_from_yields_List (λ w. post_fits (post_from w)) _ _ _ c.all.ensures.ran (YieldsList-from_slice c.args.line.now cc) (λ x b q k. search (rules, tests))
+    ∙ sym (posts_all c.args.line.now)
