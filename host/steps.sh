@@ -205,7 +205,7 @@ common_steps() {
 check_c() {
     local archive=$root/target/staticlib/libkpalumere.a program=$root/host/target/c-check
     choose_compilers
-    cd "$root/host" && check_exported_names "$archive" || return
+    cd "$root/host" && check_exported_names "$archive" && check_needed_names "$archive" || return
     # shellcheck disable=SC2086
     "$c_compiler" -std=c99 -Wall -Wextra -Werror -pedantic $c_flags -o "$program" c-check/main.c "$archive" || return
     # shellcheck disable=SC2086
@@ -276,6 +276,18 @@ check_exported_names() { # ARCHIVE
         return 1
     fi
     printf 'the archive, the header, the bindings and the caller in C have the same calls: %s\n' "$(echo "$exported" | tr '\n' ' ')"
+}
+
+# The archive needs from outside the names that docs/LIBRARY.md says, and no others: who links it without a C library brings those alone.
+check_needed_names() { # ARCHIVE
+    local needed told
+    needed=$("$list_symbols" --undefined-only "$1" | awk 'NF == 2 { print $2 }' | sort -u)
+    told=$(grep -oE 'nothing but the C library \([^)]*\)' "$root/docs/LIBRARY.md" | grep -oE '`[a-z0-9_]+`' | tr -d '`' | sort -u)
+    if [ -z "$told" ] || [ "$needed" != "$told" ]; then
+        printf 'the archive %s needs other names than docs/LIBRARY.md says\n-- needed:\n%s\n-- told:\n%s\n' "$1" "$needed" "$told"
+        return 1
+    fi
+    printf 'the archive needs from outside: %s\n' "$(echo "$needed" | tr '\n' ' ')"
 }
 
 # The names in a file, or in what is read, that a parenthesis follows as in a call or its declaration.

@@ -86,9 +86,9 @@ fn list_by(one: LevelOne, rows: &mut [u64], words: &mut [u64]) -> Result<(), Ref
     match gather(one, efs::rules_of(one.image), rows) {
         Ok(count) => {
             rows[0] = count as u64;
-            lent::put(words, &rows[..words_of(count)])
+            lent::give(words, &rows[..words_of(count)])
         }
-        Err(fault) => lent::put_fault(words, fault),
+        Err(fault) => lent::refuse_fault(words, fault),
     }
 }
 
@@ -113,6 +113,6 @@ pub fn directories(image: &[u8], words: &mut [u64]) -> Result<(), Refusal>
 {
     match flash::directory(image, 1) {
         Ok(directory) => list(LevelOne { image, directory }, words),
-        Err(fault) => lent::put_fault(words, fault),
+        Err(fault) => lent::refuse_fault(words, fault),
     }
 }

@@ -84,7 +84,7 @@ fn put_entries(image: &[u8], d: Directory, words: &mut [u64]) -> Result<(), Refu
         return Err(Refusal::Room);
     }
     put_rows(image, d, words);
-    lent::put(words, &flash_words::directory_words(d))
+    lent::give(words, &flash_words::directory_words(d))
 }
 
 // The directory's three words, place, level and total, then for each entry eight: type, subprogram, size, location and mode, then the number that refuses its
@@ -96,6 +96,6 @@ pub fn view_entries(image: &[u8], place: usize, words: &mut [u64]) -> Result<(),
 {
     match View::at(image, Offset::nearest(place)).check() {
         Ok(d) => put_entries(image, d, words),
-        Err(fault) => lent::put_fault(words, fault),
+        Err(fault) => lent::refuse_fault(words, fault),
     }
 }

@@ -47,7 +47,7 @@ pub fn read(bytes: &[u8], words: &mut [u64]) -> Result<(), Refusal>
     ensures value { answered result ≡ number_left lay_table (read_of bytes.now) words.old }
     ensures words_after { words.new ≡ words_left lay_table (read_of bytes.now) words.old }
 {
-    lent::put(words, &lay(aspt::read(bytes)?))
+    lent::give(words, &lay(aspt::read(bytes)?))
 }
 
 // Can the fields that a structure's type has hold its words? Type 2 has the first register alone, type 1 an ID byte besides, and a type that there is

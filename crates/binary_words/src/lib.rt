@@ -15,7 +15,7 @@ pub fn version(bytes: &[u8], words: &mut [u64]) -> Result<(), Refusal>
     ensures value { answered result ≡ number_left lay_number (version_of bytes.now) words.old }
     ensures words_after { words.new ≡ words_left lay_number (version_of bytes.now) words.old }
 {
-    lent::put(words, &[u64::from(version::version(bytes)?)])
+    lent::give(words, &[u64::from(version::version(bytes)?)])
 }
 
 // One word: the checksum of the bytes.
@@ -23,5 +23,5 @@ pub fn checksum(bytes: &[u8], words: &mut [u64]) -> Result<(), Refusal>
     ensures value { answered result ≡ number_left lay_number (given (fletcher_of bytes.now)) words.old }
     ensures words_after { words.new ≡ words_left lay_number (given (fletcher_of bytes.now)) words.old }
 {
-    lent::put(words, &[u64::from(fletcher::fletcher(bytes))])
+    lent::give(words, &[u64::from(fletcher::fletcher(bytes))])
 }

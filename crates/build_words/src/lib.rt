@@ -47,7 +47,7 @@ pub fn extend(
         build::extend(buf, fields)
     };
     match answer {
-        Ok(total) => lent::put(words, &[u64::from(total)]),
-        Err(fault) => lent::put_fault(words, fault),
+        Ok(total) => lent::give(words, &[u64::from(total)]),
+        Err(fault) => lent::refuse_fault(words, fault),
     }
 }

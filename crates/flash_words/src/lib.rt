@@ -48,7 +48,7 @@ pub fn efs(image: &[u8], words: &mut [u64]) -> Result<(), Refusal>
     ensures words_after { words.new ≡ words_left lay_efs (flash_efs (rules_of image.now) image.now) words.old }
 {
     let e = efs::flash_efs(image)?;
-    lent::put(words, &[e.place.0 as u64, e.early as u64, e.late as u64])
+    lent::give(words, &[e.place.0 as u64, e.early as u64, e.late as u64])
 }
 
 // Three words: the field of the EFS that holds the directory pointer, its value, and the place where it leads.
@@ -58,7 +58,7 @@ pub fn pointer(image: &[u8], words: &mut [u64]) -> Result<(), Refusal>
     ensures words_after { words.new ≡ words_left lay_pointer (flash_pointer (rules_of image.now) image.now) words.old }
 {
     let p = efs::flash_pointer(image)?;
-    lent::put(words, &[p.field as u64, p.value as u64, p.place.0 as u64])
+    lent::give(words, &[p.field as u64, p.value as u64, p.place.0 as u64])
 }
 
 // Three words: the directory's place, level and total.
@@ -67,8 +67,8 @@ pub fn directory(image: &[u8], level: u32, words: &mut [u64]) -> Result<(), Refu
     ensures words_after { words.new ≡ words_left lay_directory (flash_directory (rules_of image.now) level image.now) words.old }
 {
     match flash::directory(image, level) {
-        Ok(d) => lent::put(words, &directory_words(d)),
-        Err(fault) => lent::put_fault(words, fault),
+        Ok(d) => lent::give(words, &directory_words(d)),
+        Err(fault) => lent::refuse_fault(words, fault),
     }
 }
 
@@ -78,7 +78,7 @@ pub fn repeated(image: &[u8], level: u32, words: &mut [u64]) -> Result<(), Refus
     ensures words_after { words.new ≡ words_left lay_repeat (flash_repeats (rules_of image.now) level image.now) words.old }
 {
     match repeats::repeated(image, level) {
-        Ok(r) => lent::put(
+        Ok(r) => lent::give(
             words,
             &[
                 r.entry as u64,
@@ -87,7 +87,7 @@ pub fn repeated(image: &[u8], level: u32, words: &mut [u64]) -> Result<(), Refus
                 r.subprogram as u64,
             ],
         ),
-        Err(fault) => lent::put_fault(words, fault),
+        Err(fault) => lent::refuse_fault(words, fault),
     }
 }
 
@@ -97,8 +97,8 @@ pub fn entry(image: &[u8], level: u32, index: u64, words: &mut [u64]) -> Result<
     ensures words_after { words.new ≡ words_left lay_entry (flash_entry (rules_of image.now) level image.now index) words.old }
 {
     match flash::entry(image, level, index as usize) {
-        Ok(e) => lent::put(words, &entry_words(e)),
-        Err(fault) => lent::put_fault(words, fault),
+        Ok(e) => lent::give(words, &entry_words(e)),
+        Err(fault) => lent::refuse_fault(words, fault),
     }
 }
 
@@ -108,7 +108,7 @@ pub fn part(image: &[u8], level: u32, index: u64, words: &mut [u64]) -> Result<(
     ensures words_after { words.new ≡ words_left lay_part (flash_part (rules_of image.now) level image.now index) words.old }
 {
     match flash::part(image, level, index as usize) {
-        Ok(p) => lent::put(words, &part_words(p)),
-        Err(fault) => lent::put_fault(words, fault),
+        Ok(p) => lent::give(words, &part_words(p)),
+        Err(fault) => lent::refuse_fault(words, fault),
     }
 }

@@ -1,4 +1,4 @@
--- What the functions of the pass promise one another. Assumes nothing: these are definitions.
+-- What the functions of the pass promise one another, and what the pass keeps from run to run (`Folded`). Assumes nothing: these are definitions.
 use Rattle.std.specs.Prelude.{ℕ, ◌+◌, ◌*◌, ◌/◌, ◌%◌, ◌≡◌, List}
 use Rattle.fletcher.specs.declared.Sums.{Sums}
 use Rattle.fletcher.specs.Fletcher.{words_at, sum_of, weighted_of}

@@ -1,14 +1,15 @@
 -- What starting and extending a table cite. Assumes nothing.
 use mathlib.Core.Path.{◌≡◌, sym, ap, ◌∙◌}
 use mathlib.Core.List.{List}
-use mathlib.Core.Bool.{true}
+use mathlib.Core.Bool.{true, false}
 use Prim.Native.Nat.{ℕ, ◌+◌, ◌-◌, ◌<◌, ◌≤◌}
 use native.Mathlib.Omega.{arith}
-use borrow.Author.Tests.{leb-true, le-leb, lt-leb}
-use lib.ListN.{length, take, drop}
+use borrow.Author.Tests.{leb-true, le-leb, lt-leb, ne_eqb}
+use lib.ListN.{length, get_or, take, drop, drop_of_length-le}
 use lib.Dec.{leb}
 use Rattle.le.specs.Le.{le_bytes, put_bytes, put_at}
 use Rattle.le.proofs.Numbers.{puts_all}
+use Rattle.le.proofs.Part.{drop_next}
 use Rattle.le.proofs.Put.{put_join}
 use Rattle.le.proofs.Back.{put_long}
 use Rattle.reply.specs.Reply.{given, refused, alone}
@@ -34,6 +35,20 @@ start_none s h = simp (lt-leb 50 (length s) h)
 pub start_some : (s : List ℕ) → 50 ≤ length s → start_of s ≡ given 18
 unfolding start_of
 start_some s h = simp (le-leb 50 (length s) h)
+
+-- the test for zero bytes, one byte at a time
+module _ (s : List ℕ) (i : ℕ) where
+  pub zero_end : length s ≤ i → all_zero (drop i s) ≡ true
+  unfolding all_zero
+  zero_end h = rw (drop_of_length-le s h)
+
+  pub zero_step : i < length s → get_or s i 0 ≡ 0 → all_zero (drop i s) ≡ all_zero (drop (i + 1) s)
+  unfolding all_zero
+  zero_step h z = rw (drop_next s i h, z)
+
+  pub zero_stop : i < length s → (get_or s i 0 ≡ 0 → ⊥) → all_zero (drop i s) ≡ false
+  unfolding all_zero
+  zero_stop h n = rw (drop_next s i h, ne_eqb (get_or s i 0) 0 n)
 
 -- what an extend that is accepted says
 pub record Room (s bytes : List ℕ) (total : ℕ) : Type 0 where

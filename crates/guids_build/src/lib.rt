@@ -36,11 +36,17 @@ pub fn start(buf: &mut [u8]) -> Result<u32, Refusal>
     Ok(GuidEntry::END as u32)
 }
 
-// Are all bytes zero?
+// Are all bytes zero? A `for`, since `iter().all` takes some three times the instructions for each byte.
+#[tactic(auto, using(crate::proofs::Writing::zero_end, crate::proofs::Writing::zero_step, crate::proofs::Writing::zero_stop))]
 fn all_zero(bytes: &[u8]) -> bool
     ensures { result ≡ all_zero bytes.now }
 {
-    bytes.iter().all(|byte| *byte == 0)
+    for byte in bytes {
+        if *byte != 0 {
+            return false;
+        }
+    }
+    true
 }
 
 // Has a good table room for an entry of `more` bytes that brings it to this total?

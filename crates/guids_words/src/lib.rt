@@ -18,7 +18,7 @@ pub fn table(image: &[u8], words: &mut [u64]) -> Result<(), Refusal>
     ensures words_after { words.new ≡ words_left lay_totals (table_of image.now) words.old }
 {
     let totals = guids::table(image)?;
-    lent::put(words, &[u64::from(totals.total), u64::from(totals.entries)])
+    lent::give(words, &[u64::from(totals.total), u64::from(totals.entries)])
 }
 
 // Three words: the data's place and length, and the number of entries tested. 8 carries that number: one word.
@@ -28,7 +28,7 @@ pub fn find(image: &[u8], low: u64, high: u64, words: &mut [u64]) -> Result<(), 
     ensures words_after { words.new ≡ words_left lay_guid_match (find_of image.now (guid_of low high)) words.old }
 {
     match guids::find(image, Guid { low, high }) {
-        Ok(found) => lent::put(
+        Ok(found) => lent::give(
             words,
             &[
                 found.place as u64,
@@ -54,7 +54,7 @@ pub fn entry(image: &[u8], i: usize, words: &mut [u64]) -> Result<(), Refusal>
         place,
         length,
     } = guids::entry(image, i)?;
-    lent::put(words, &[low, high, place as u64, length as u64])
+    lent::give(words, &[low, high, place as u64, length as u64])
 }
 
 // Starts a table with no entries.
@@ -84,5 +84,5 @@ pub fn extend(
         return Err(Refusal::Room);
     }
     let total = guids_build::extend(buf, Guid { low, high }, bytes)?;
-    lent::put(words, &[u64::from(total)])
+    lent::give(words, &[u64::from(total)])
 }

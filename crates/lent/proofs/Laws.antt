@@ -52,13 +52,22 @@ module _ (vs ws : List ℕ) (n : ℕ) where
       by true e = refl
       by false e = absurd (omega (arith, e))
 
-  pub number_full : (refusal : Refusal) → refusal_number refusal ≡ number_for 0 vs ws → refusal_number refusal ≡ number_for n vs ws
+  pub number_passed : (refusal : Refusal) → refusal_number refusal ≡ number_for 0 vs ws → refusal_number refusal ≡ number_for n vs ws
   unfolding number_for
-  number_full refusal e = by (leb (length vs) (length ws)) e
+  number_passed refusal e = by (leb (length vs) (length ws)) e
     where
       by : (b : Bool) → refusal_number refusal ≡ cond b 0 12 → refusal_number refusal ≡ cond b n 12
       by true e = absurd (refusal_above refusal e)
       by false e = e
+
+  -- a number other than the one that was to be answered is 12
+  pub number_full : (k : ℕ) → k ≡ number_for n vs ws → (k ≡ n → ⊥) → 12 ≡ number_for n vs ws
+  unfolding number_for
+  number_full k e other = by (leb (length vs) (length ws)) e
+    where
+      by : (b : Bool) → k ≡ cond b n 12 → 12 ≡ cond b n 12
+      by true e = absurd (other e)
+      by false e = refl
 
 -- what an export leaves, once its reply is known: what it gives, a number with a count, a fault with its place, or a number alone
 module _ {A : Type 0} (lay : A → List ℕ) (d : Reply A) (ws : List ℕ) where

@@ -16,9 +16,9 @@ pub fn find(image: &[u8], level: u32, class: u8, sub: u8, words: &mut [u64]) -> 
     ensures words_after { words.new ≡ words_left lay_match (flash_find (rules_of image.now) level image.now class sub) words.old }
 {
     match flash::find(image, level, class, sub) {
-        Ok(m) => lent::put(words, &[m.index as u64, m.tested as u64]),
+        Ok(m) => lent::give(words, &[m.index as u64, m.tested as u64]),
         Err(Missed::Absent(tested)) => lent::refuse(words, Refusal::Absent, &[tested as u64]),
-        Err(Missed::Refused(fault)) => lent::put_fault(words, fault),
+        Err(Missed::Refused(fault)) => lent::refuse_fault(words, fault),
     }
 }
 
@@ -28,7 +28,7 @@ pub fn find_image(image: &[u8], class: u8, sub: u8, words: &mut [u64]) -> Result
     ensures words_after { words.new ≡ words_left lay_image_match (find_image (rules_of image.now) image.now class sub) words.old }
 {
     match walk::find_image(image, class, sub) {
-        Ok(m) => lent::put(
+        Ok(m) => lent::give(
             words,
             &[
                 m.place.0 as u64,
@@ -38,6 +38,6 @@ pub fn find_image(image: &[u8], class: u8, sub: u8, words: &mut [u64]) -> Result
             ],
         ),
         Err(Missed::Absent(tested)) => lent::refuse(words, Refusal::Absent, &[tested as u64]),
-        Err(Missed::Refused(fault)) => lent::put_fault(words, fault),
+        Err(Missed::Refused(fault)) => lent::refuse_fault(words, fault),
     }
 }

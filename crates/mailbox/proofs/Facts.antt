@@ -10,8 +10,8 @@ use lib.Dec.{eqb, leb}
 use borrow.Author.Tests.{eq-eqb, ne_eqb, le-leb, eqb-true, leb-true}
 use Rattle.std.proofs.lemmas.Bool.{and_parts}
 use Rattle.mailbox.specs.declared.Phase.TheVariants.{Response}
-use Rattle.mailbox.specs.declared.Place.{Place}
-use Rattle.mailbox.specs.declared.Place.TheVariants.{Free, Waiting, Ready}
+use Rattle.mailbox.specs.declared.PlaceState.{PlaceState}
+use Rattle.mailbox.specs.declared.PlaceState.TheVariants.{Free, Waiting, Ready}
 use Rattle.mailbox.specs.declared.Post.{Post}
 use Rattle.mailbox.specs.declared.Mailbox.{Mailbox}
 use Rattle.mailbox.specs.Machine.{waiting, state_of}
@@ -130,12 +130,12 @@ sum_times (p ∷ l) e =
     let t = sum_times l a.1 in
     rw (sum_add 8 (λ c. once (eqb p.caller c)) (λ c. times_in c l)) (omega arith)
 
-pub waits_one : (s : Place) → 1 ≤ waits s → s ≡ Waiting
+pub waits_one : (s : PlaceState) → 1 ≤ waits s → s ≡ Waiting
 waits_one Free h = absurd (omega arith)
 waits_one Waiting h = refl
 waits_one (Ready w) h = absurd (omega arith)
 
-pub waits_le : (s : Place) → waits s ≤ 1
+pub waits_le : (s : PlaceState) → waits s ≤ 1
 waits_le Free = omega arith
 waits_le Waiting = omega arith
 waits_le (Ready w) = omega arith

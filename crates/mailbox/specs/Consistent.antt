@@ -3,8 +3,9 @@
 use Rattle.std.specs.Prelude.{Bool, true, cond, ◌&&◌, List, [], ◌∷◌, ℕ, zero, suc, ◌+◌, ◌/◌, eqb, leb}
 use Rattle.mailbox.specs.declared.Phase.{Phase}
 use Rattle.mailbox.specs.declared.Phase.TheVariants.{Idle, Command, Response}
+use Rattle.mailbox.specs.declared.PlaceState.{PlaceState}
+use Rattle.mailbox.specs.declared.PlaceState.TheVariants.{Free, Waiting, Ready}
 use Rattle.mailbox.specs.declared.Place.{Place}
-use Rattle.mailbox.specs.declared.Place.TheVariants.{Free, Waiting, Ready}
 use Rattle.mailbox.specs.declared.Post.{Post}
 use Rattle.mailbox.specs.declared.Mailbox.{Mailbox}
 use Rattle.mailbox.specs.Machine.{waiting, state_at}
@@ -40,7 +41,7 @@ register_holds caller (Command holder word) = once (eqb holder caller)
 register_holds caller (Response holder word) = once (eqb holder caller)
 
 -- how often the place says that the caller's post is in line or register
-abbrev pub waits : Place → ℕ
+abbrev pub waits : PlaceState → ℕ
 waits Free = 0
 waits Waiting = 1
 waits (Ready word) = 0

@@ -4,8 +4,9 @@ use Rattle.firmware.specs.Word.{word_of}
 use Rattle.firmware.specs.Rules.{fresh_firmware, run_of}
 use Rattle.firmware.specs.declared.Firmware.{Firmware}
 use Rattle.mailbox.specs.declared.Phase.TheVariants.{Idle, Command, Response}
+use Rattle.mailbox.specs.declared.PlaceState.{PlaceState}
+use Rattle.mailbox.specs.declared.PlaceState.TheVariants.{Free, Waiting, Ready}
 use Rattle.mailbox.specs.declared.Place.{Place}
-use Rattle.mailbox.specs.declared.Place.TheVariants.{Free, Waiting, Ready}
 use Rattle.mailbox.specs.declared.Post.{Post}
 use Rattle.mailbox.specs.declared.Mailbox.{Mailbox}
 
@@ -26,15 +27,18 @@ abbrev pub waiting : Mailbox → List Post
 waiting m = take m.count m.line
 
 -- ---- places
--- what stands in a caller's place
-abbrev pub state_at : (places : List Place) (caller : ℕ) → Place
-state_at places caller = get_or places caller Free
+abbrev pub place_with : PlaceState → Place
+place_with state = record { state = state }
 
-abbrev pub state_of : Mailbox → (caller : ℕ) → Place
+-- what stands in a caller's place
+abbrev pub state_at : (places : List Place) (caller : ℕ) → PlaceState
+state_at places caller = (get_or places caller (place_with Free)).state
+
+abbrev pub state_of : Mailbox → (caller : ℕ) → PlaceState
 state_of m caller = state_at m.places caller
 
 -- the caller has no untaken post
-abbrev pub is_free : Place → Bool
+abbrev pub is_free : PlaceState → Bool
 is_free Free = true
 is_free Waiting = false
 is_free (Ready word) = false
@@ -42,7 +46,7 @@ is_free (Ready word) = false
 -- ---- the fresh mailbox
 -- nothing in line, register and places, before this firmware
 abbrev pub mailbox_before : Firmware → Mailbox
-mailbox_before f = record { register = Idle; count = 0; line = replicate 8 no_post; places = replicate 8 Free; firmware = f }
+mailbox_before f = record { register = Idle; count = 0; line = replicate 8 no_post; places = replicate 8 (place_with Free); firmware = f }
 
 abbrev pub fresh_mailbox : Mailbox
 fresh_mailbox = mailbox_before fresh_firmware
@@ -54,7 +58,7 @@ joined m caller command d = record {
   register = m.register;
   count = m.count + 1;
   line = set m.line m.count (post_by caller command d);
-  places = set m.places caller Waiting;
+  places = set m.places caller (place_with Waiting);
   firmware = m.firmware;
 }
 
@@ -88,7 +92,7 @@ handed_over m caller word = record {
   register = Idle;
   count = m.count;
   line = m.line;
-  places = set m.places caller (Ready word);
+  places = set m.places caller (place_with (Ready word));
   firmware = m.firmware;
 }
 
@@ -98,6 +102,6 @@ freed m caller = record {
   register = m.register;
   count = m.count;
   line = m.line;
-  places = set m.places caller Free;
+  places = set m.places caller (place_with Free);
   firmware = m.firmware;
 }

@@ -15,12 +15,18 @@ pub enum Phase {
     Response { caller: u32, word: u32 },
 }
 
-// A caller's place, where its untaken post is: there is none, it waits in line or register, or its word is here to be taken.
+// Where a caller's untaken post is: there is none, it waits in line or register, or its word is here to be taken.
 #[derive(Clone, Copy)]
-pub enum Place {
+pub enum PlaceState {
     Free,
     Waiting,
     Ready(u32),
+}
+
+// A caller's place: a record, as document 01 asks, though it has one field.
+#[derive(Clone, Copy)]
+pub struct Place {
+    pub state: PlaceState,
 }
 
 // A post in the line; the default is what an empty slot holds.
@@ -100,14 +106,14 @@ impl Phase {
     }
 }
 
-impl Place {
+impl PlaceState {
     // How often the caller's post is to be found in line and register.
     pub fn waits(self) -> usize
         ensures { result ≡ waits self }
     {
         match self {
-            Place::Free | Place::Ready(_) => 0,
-            Place::Waiting => 1,
+            PlaceState::Free | PlaceState::Ready(_) => 0,
+            PlaceState::Waiting => 1,
         }
     }
 }
@@ -121,7 +127,7 @@ impl Mailbox {
     {
         let posts = &self.line[..self.count];
         times_in(posts, caller) + self.register.holds(caller)
-            == self.places[caller as usize].waits()
+            == self.places[caller as usize].state.waits()
     }
 
     // The same for every caller.
@@ -151,7 +157,9 @@ impl Mailbox {
             register: Phase::Idle,
             count: 0,
             line: [Post::default(); 8],
-            places: [Place::Free; 8],
+            places: [Place {
+                state: PlaceState::Free,
+            }; 8],
             firmware: Firmware::fresh(),
         }
     }

@@ -4,8 +4,8 @@ use Rattle.reply.specs.Reply.{Reply, given, refused, alone, guard, told_alone}
 use Rattle.reply.specs.declared.Refusal.{Refusal}
 use Rattle.mailbox.specs.declared.Phase.{Phase}
 use Rattle.mailbox.specs.declared.Phase.TheVariants.{Idle, Command, Response}
-use Rattle.mailbox.specs.declared.Place.{Place}
-use Rattle.mailbox.specs.declared.Place.TheVariants.{Free, Waiting, Ready}
+use Rattle.mailbox.specs.declared.PlaceState.{PlaceState}
+use Rattle.mailbox.specs.declared.PlaceState.TheVariants.{Free, Waiting, Ready}
 use Rattle.mailbox.specs.declared.Mailbox.{Mailbox}
 use Rattle.mailbox.specs.Machine.{state_of, is_free, joined, with_oldest, with_response, handed_over, freed}
 use Rattle.mailbox.specs.Consistent.{consistent_of}
@@ -66,7 +66,7 @@ unfoldable pub unload_of : Mailbox → After (Reply Bool)
 unload_of m = leaves m (guard (consistent_of m) 5 (given (unloaded_from m m.register)))
 
 -- ---- take
-abbrev pub taken_from : Mailbox → (caller : ℕ) → Place → Reply (After ℕ)
+abbrev pub taken_from : Mailbox → (caller : ℕ) → PlaceState → Reply (After ℕ)
 taken_from m caller Free = refused 8 alone  -- no untaken post (8)
 taken_from m caller Waiting = refused 11 alone  -- not unloaded yet (11)
 taken_from m caller (Ready word) = given (after (freed m caller) word)  -- else the word

@@ -4,7 +4,7 @@
 ghost use Rattle.std.specs.Prelude.{◌≡◌};
 ghost use Rattle.mailbox_calls.specs.Calls.{after, told_after, post_of, take_of};
 
-use mailbox::{Mailbox, Place, Post};
+use mailbox::{Mailbox, PlaceState, Post};
 use reply::Refusal;
 
 // Takes a post of a caller into the line.
@@ -19,10 +19,10 @@ pub fn post(mailbox: &mut Mailbox, caller: u32, command: u32, data: u16) -> Resu
         return Err(Refusal::Range);
     }
     let at = caller as usize;
-    let Place::Free = mailbox.places[at] else {
+    let PlaceState::Free = mailbox.places[at].state else {
         return Err(Refusal::Outstanding);
     };
-    mailbox.places[at] = Place::Waiting;
+    mailbox.places[at].state = PlaceState::Waiting;
     mailbox.line[mailbox.count] = Post {
         caller,
         command: command as u16,
@@ -44,11 +44,11 @@ pub fn take(mailbox: &mut Mailbox, caller: u32) -> Result<u32, Refusal>
         return Err(Refusal::Range);
     }
     let place = &mut mailbox.places[caller as usize];
-    match *place {
-        Place::Free => Err(Refusal::Absent),
-        Place::Waiting => Err(Refusal::Early),
-        Place::Ready(word) => {
-            *place = Place::Free;
+    match place.state {
+        PlaceState::Free => Err(Refusal::Absent),
+        PlaceState::Waiting => Err(Refusal::Early),
+        PlaceState::Ready(word) => {
+            place.state = PlaceState::Free;
             Ok(word)
         }
     }

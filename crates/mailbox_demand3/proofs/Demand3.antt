@@ -5,17 +5,17 @@ use mathlib.Core.Path.{◌≡◌, refl, sym, ap, ◌∙◌, subst}
 use Prim.Native.Nat.{ℕ, zero, suc, ◌+◌, ◌<◌, ◌≤◌}
 use native.Mathlib.Omega.{arith}
 use lib.ListN.{length, get_or, take, replicate, length-append}
-use lib.Seq.{take_at, get_or_at, get_or-set_same, get_or-set_other}
+use lib.Seq.{take_at, get_or_at}
 use lib.Dec.{eqb}
 use Rattle.firmware.specs.Rules.{fresh_firmware}
 use Rattle.firmware.specs.declared.Firmware.{Firmware}
 use Rattle.mailbox.specs.declared.Phase.{Phase}
 use Rattle.mailbox.specs.declared.Phase.TheVariants.{Idle, Command, Response}
-use Rattle.mailbox.specs.declared.Place.{Place}
-use Rattle.mailbox.specs.declared.Place.TheVariants.{Free, Waiting, Ready}
+use Rattle.mailbox.specs.declared.PlaceState.{PlaceState}
+use Rattle.mailbox.specs.declared.PlaceState.TheVariants.{Free, Waiting, Ready}
 use Rattle.mailbox.specs.declared.Post.{Post}
 use Rattle.mailbox.specs.declared.Mailbox.{Mailbox}
-use Rattle.mailbox.specs.Machine.{post_by, no_post, waiting, state_of, mailbox_before}
+use Rattle.mailbox.specs.Machine.{post_by, no_post, waiting, place_with, state_of, mailbox_before}
 use Rattle.mailbox.specs.Consistent.{posts_fit, register_fits, once, times_in, register_holds, waits, consistent_of}
 use Rattle.mailbox_calls.specs.Calls.{After}
 use Rattle.mailbox.proofs.ConsistentLaws.{times_append}
@@ -26,7 +26,7 @@ use Rattle.mailbox_demand3.specs.Sequence.{state_after, answers_to, words_of}
 use Rattle.mailbox_demand3.specs.Demand3.{Begins, untaken, Joins, Loads, Turns, Unloads, Takes, Demand3, DemandThreeFrom, DemandThree}
 use Rattle.mailbox_demand3.proofs.SequenceLaws.{answers_append, words_append, words_count}
 use Rattle.mailbox_demand3.proofs.Outcome.{Outcome, nothing, joins, loads, turns, unloads, takes, outcome, join_is, load_is, turn_is, unload_is, take_is}
-use Rattle.mailbox_demand3.proofs.Kept.{Holds, ready, answered, Kept, join_line, join_kept, load_line, load_kept, turn_kept, unload_low, unload_kept, take_kept}
+use Rattle.mailbox_demand3.proofs.Kept.{Holds, ready, answered, Kept, at_same, at_other, join_line, join_kept, load_line, load_kept, turn_kept, unload_low, unload_kept, take_kept}
 
 -- ---- every run keeps it
 good : {start : Firmware} (m : Mailbox) (g : Log) → Kept start m g → true ≡ consistent_of m
@@ -45,7 +45,7 @@ unfolding played
 run_kept [] r k = k
 run_kept (call ∷ calls) r k = run_kept calls (stepped call_of r call) (changed r.mailbox r.log k (outcome r.mailbox (good r.mailbox r.log k) call))
 
-all_free : (n i : ℕ) → get_or (replicate n Free) i Free ≡ Free
+all_free : (n i : ℕ) → get_or (replicate n (place_with Free)) i (place_with Free) ≡ place_with Free
 all_free zero i = refl
 all_free (suc n) zero = refl
 all_free (suc n) (suc i) = all_free n i
@@ -83,7 +83,7 @@ inside_count c (Response k w) inside e = rw e (go (eqb k c))
     go true = refl
     go false = refl
 
-ready_count : (s : Place) → length (ready s) + waits s ≡ untaken s
+ready_count : (s : PlaceState) → length (ready s) + waits s ≡ untaken s
 ready_count Free = refl
 ready_count Waiting = refl
 ready_count (Ready w) = refl
@@ -135,7 +135,7 @@ module _ {start : Firmware} (m : Mailbox) (g : Log) (k : Kept start m g) where
   acting (loads p n) e q = let r = ap (λ (b : Mailbox). b.register) q ∙ p in cc
   acting (turns c w p) e q = let r = ap (λ (b : Mailbox). b.register) q ∙ p in cc
   acting (unloads c w p) e q = let r = ap (λ (b : Mailbox). b.register) q ∙ p in cc
-  acting (takes c w h p) e q = let r = sym (get_or-set_same m.places c Free Free (long c h)) ∙ (ap (λ (b : Mailbox). state_of b c) q ∙ p) in cc
+  acting (takes c w h p) e q = let r = sym (at_same m.places c Free (long c h)) ∙ (ap (λ (b : Mailbox). state_of b c) q ∙ p) in cc
 
   -- ---- service
   joining : (c n d : ℕ) (bits : Sixteen d) → c ≤ 7 → n ≤ 0x3FF → state_of m c ≡ Free → Joins m (post_by c n d) (call_of m (post c n d bits))
@@ -145,8 +145,8 @@ module _ {start : Firmware} (m : Mailbox) (g : Log) (k : Kept start m g) where
         answer = refl;
         register = refl;
         line = join_line m g k c n d h l e (room m c k.line_long (consistent_test m k.good) h e);
-        place = get_or-set_same m.places c Waiting Free (long c h);
-        others = λ i. get_or-set_other m.places c i Waiting Free;
+        place = at_same m.places c Waiting (long c h);
+        others = at_other m.places c Waiting;
         firmware = refl;
       })
 
@@ -180,15 +180,15 @@ module _ {start : Firmware} (m : Mailbox) (g : Log) (k : Kept start m g) where
         answer = refl;
         register = refl;
         line = refl;
-        place = get_or-set_same m.places c (Ready w) Free (long c (unload_low m g k c w e));
-        others = λ i. get_or-set_other m.places c i (Ready w) Free;
+        place = at_same m.places c (Ready w) (long c (unload_low m g k c w e));
+        others = at_other m.places c (Ready w);
         firmware = refl;
       })
 
   taking : (c w : ℕ) → c ≤ 7 → state_of m c ≡ Ready w → Takes m c w (call_of m (take_word c))
   taking c w h e =
       subst (Takes m c w) (ap (seen_as (took c)) (take_is m (good m g k) c w h e))
-      (record { answer = refl; register = refl; line = refl; place = get_or-set_same m.places c Free Free (long c h); others = λ i. get_or-set_other m.places c i Free Free; firmware = refl })
+      (record { answer = refl; register = refl; line = refl; place = at_same m.places c Free (long c h); others = at_other m.places c Free; firmware = refl })
 
   pub asked : Demand3 call_of start m g
   asked = record {

@@ -16,11 +16,12 @@ use Rattle.firmware.specs.declared.Firmware.{Firmware}
 use Rattle.std.proofs.lemmas.Bool.{and_parts}
 use Rattle.mailbox.specs.declared.Phase.{Phase}
 use Rattle.mailbox.specs.declared.Phase.TheVariants.{Idle, Command, Response}
-use Rattle.mailbox.specs.declared.Place.TheVariants.{Free, Waiting, Ready}
+use Rattle.mailbox.specs.declared.PlaceState.{PlaceState}
+use Rattle.mailbox.specs.declared.PlaceState.TheVariants.{Free, Waiting, Ready}
 use Rattle.mailbox.specs.declared.Place.{Place}
 use Rattle.mailbox.specs.declared.Post.{Post}
 use Rattle.mailbox.specs.declared.Mailbox.{Mailbox}
-use Rattle.mailbox.specs.Machine.{post_by, no_post, command_word, waiting, state_at, state_of, joined, with_oldest, with_response, handed_over, freed}
+use Rattle.mailbox.specs.Machine.{post_by, no_post, command_word, waiting, place_with, state_at, state_of, joined, with_oldest, with_response, handed_over, freed}
 use Rattle.mailbox.specs.Consistent.{post_fits, posts_fit, register_fits, times_in, register_holds, waits}
 use Rattle.mailbox_calls.specs.Calls.{accepted}
 use Rattle.mailbox.proofs.ConsistentLaws.{times_append, fit_append}
@@ -38,7 +39,7 @@ Holds (Command c w) inside = (p : Post) × (inside ≡ p ∷ []) × (p.caller �
 Holds (Response c w) inside = inside ≡ []
 
 -- the word in a place, and the caller's word in the register
-abbrev pub ready : Place → List ℕ
+abbrev pub ready : PlaceState → List ℕ
 ready Free = []
 ready Waiting = []
 ready (Ready w) = w ∷ []
@@ -60,14 +61,22 @@ pub record Kept (start : Firmware) (m : Mailbox) (g : Log) : Type 0 where
   pub state : m.firmware ≡ state_after start ran
   pub words : (c : ℕ) → words_of c g.taken ++ (ready (state_of m c) ++ answered c m.register) ≡ words_of c (answers_to start ran)
 
--- ---- what holds of every place after one is set: of that one, and of each other
-module _ (P : ℕ → Place → Type 0) (l : List Place) (c : ℕ) (s : Place) where
-  at_every : c < length l → P c s → ((i : ℕ) → (i ≡ c → ⊥) → P i (state_at l i)) → (i : ℕ) → P i (state_at (set l c s) i)
+-- ---- a place after one is set
+module _ (l : List Place) (c : ℕ) (s : PlaceState) where
+  pub at_same : c < length l → state_at (set l c (place_with s)) c ≡ s
+  at_same h = ap (λ (p : Place). p.state) (get_or-set_same l c (place_with s) (place_with Free) h)
+
+  pub at_other : (i : ℕ) → (i ≡ c → ⊥) → state_at (set l c (place_with s)) i ≡ state_at l i
+  at_other i h = ap (λ (p : Place). p.state) (get_or-set_other l c i (place_with s) (place_with Free) h)
+
+-- what holds of every place after one is set: of that one, and of each other
+module _ (P : ℕ → PlaceState → Type 0) (l : List Place) (c : ℕ) (s : PlaceState) where
+  at_every : c < length l → P c s → ((i : ℕ) → (i ≡ c → ⊥) → P i (state_at l i)) → (i : ℕ) → P i (state_at (set l c (place_with s)) i)
   at_every h here others i = go (ℕ_discrete i c)
     where
-      go : Dec (i ≡ c) → P i (state_at (set l c s) i)
-      go (yes e) = rw (e, get_or-set_same l c s Free h) here
-      go (no n) = rw (get_or-set_other l c i s Free n) (others i n)
+      go : Dec (i ≡ c) → P i (state_at (set l c (place_with s)) i)
+      go (yes e) = rw (e, at_same l c s h) here
+      go (no n) = rw (at_other l c s i n) (others i n)
 
 module _ {start : Firmware} (m : Mailbox) (g : Log) (k : Kept start m g) where
   long : (c : ℕ) → c ≤ 7 → c < length m.places
@@ -99,7 +108,7 @@ module _ {start : Firmware} (m : Mailbox) (g : Log) (k : Kept start m g) where
     join_kept = record {
       good = record { short = omega arith; posts = rw join_line join_fits; register = k.good.register; callers = λ i h. rw join_line (join_callers i h) };
       line_long = length-set m.line m.count p ∙ k.line_long;
-      places_long = length-set m.places c Waiting ∙ k.places_long;
+      places_long = length-set m.places c (place_with Waiting) ∙ k.places_long;
       ran = k.ran;
       inside = k.inside;
       holds = k.holds;
@@ -216,7 +225,7 @@ module _ {start : Firmware} (m : Mailbox) (g : Log) (k : Kept start m g) where
     unload_kept = record {
       good = record { short = k.good.short; posts = k.good.posts; register = refl; callers = unload_callers };
       line_long = k.line_long;
-      places_long = length-set m.places c (Ready w) ∙ k.places_long;
+      places_long = length-set m.places c (place_with (Ready w)) ∙ k.places_long;
       ran = k.ran;
       inside = k.inside;
       holds = subst (λ r. Holds r k.inside) is k.holds;
@@ -245,7 +254,7 @@ module _ {start : Firmware} (m : Mailbox) (g : Log) (k : Kept start m g) where
     take_kept = record {
       good = record { short = k.good.short; posts = k.good.posts; register = k.good.register; callers = take_callers };
       line_long = k.line_long;
-      places_long = length-set m.places c Free ∙ k.places_long;
+      places_long = length-set m.places c (place_with Free) ∙ k.places_long;
       ran = k.ran;
       inside = k.inside;
       holds = k.holds;

@@ -8,8 +8,8 @@ use borrow.Author.Tests.{ne_eqb, le-leb, lt-leb}
 use Rattle.reply.specs.Reply.{Reply, given, refused, alone}
 use Rattle.mailbox.specs.declared.Phase.{Phase}
 use Rattle.mailbox.specs.declared.Phase.TheVariants.{Idle, Command, Response}
-use Rattle.mailbox.specs.declared.Place.{Place}
-use Rattle.mailbox.specs.declared.Place.TheVariants.{Free, Waiting, Ready}
+use Rattle.mailbox.specs.declared.PlaceState.{PlaceState}
+use Rattle.mailbox.specs.declared.PlaceState.TheVariants.{Free, Waiting, Ready}
 use Rattle.mailbox.specs.declared.Mailbox.{Mailbox}
 use Rattle.mailbox.specs.Machine.{state_of, is_free, joined, with_oldest, with_response, handed_over, freed}
 use Rattle.mailbox.specs.Consistent.{consistent_of}
@@ -94,7 +94,7 @@ module _ (m : Mailbox) (good : true ≡ consistent_of m) where
       quiet : (n : ℕ) → (n ≡ 5 → ⊥) → Outcome m (after m (posted c k d (refused n alone)))
       quiet n h = nothing (posted c k d (refused n alone)) (λ g. refl) h refl
 
-      go : c ≤ 7 → k ≤ 0x3FF → (s : Place) → state_of m c ≡ s → Outcome m (seen_as (posted c k d) (post_of m c k d))
+      go : c ≤ 7 → k ≤ 0x3FF → (s : PlaceState) → state_of m c ≡ s → Outcome m (seen_as (posted c k d) (post_of m c k d))
       go h l Free e = by (posted c k d) (join_is c k d h l e) (joins c k d h l e)
       go h l Waiting e = by (posted c k d) (outstanding c k d h l (rw e)) (quiet 10 (λ q. omega arith))
       go h l (Ready w) e = by (posted c k d) (outstanding c k d h l (rw e)) (quiet 10 (λ q. omega arith))
@@ -150,7 +150,7 @@ module _ (m : Mailbox) (good : true ≡ consistent_of m) where
       quiet : (n : ℕ) → (n ≡ 5 → ⊥) → Outcome m (after m (took c (refused n alone)))
       quiet n h = nothing (took c (refused n alone)) (λ g. refl) h refl
 
-      go : c ≤ 7 → (s : Place) → state_of m c ≡ s → Outcome m (call_of m (take_word c))
+      go : c ≤ 7 → (s : PlaceState) → state_of m c ≡ s → Outcome m (call_of m (take_word c))
       go h Free e = by (took c) (take_refused c 8 h (rw e)) (quiet 8 (λ q. omega arith))
       go h Waiting e = by (took c) (take_refused c 11 h (rw e)) (quiet 11 (λ q. omega arith))
       go h (Ready w) e = by (took c) (take_is c w h e) (takes c w h e)

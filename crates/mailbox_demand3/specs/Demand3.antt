@@ -4,8 +4,8 @@ use Rattle.reply.specs.Reply.{given}
 use Rattle.firmware.specs.Rules.{fresh_firmware, run_of}
 use Rattle.firmware.specs.declared.Firmware.{Firmware}
 use Rattle.mailbox.specs.declared.Phase.TheVariants.{Idle, Command, Response}
-use Rattle.mailbox.specs.declared.Place.{Place}
-use Rattle.mailbox.specs.declared.Place.TheVariants.{Free, Waiting, Ready}
+use Rattle.mailbox.specs.declared.PlaceState.{PlaceState}
+use Rattle.mailbox.specs.declared.PlaceState.TheVariants.{Free, Waiting, Ready}
 use Rattle.mailbox.specs.declared.Post.{Post}
 use Rattle.mailbox.specs.declared.Mailbox.{Mailbox}
 use Rattle.mailbox.specs.Machine.{post_by, no_post, command_word, waiting, state_of, mailbox_before}
@@ -19,7 +19,7 @@ abbrev pub Begins : (a b : List ℕ) → Type 0
 Begins a b = (rest : List ℕ) × (a ++ rest ≡ b)
 
 -- how many posts of a caller are untaken, by its place
-abbrev pub untaken : Place → ℕ
+abbrev pub untaken : PlaceState → ℕ
 untaken Free = 0
 untaken Waiting = 1
 untaken (Ready word) = 1

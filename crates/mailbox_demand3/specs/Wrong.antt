@@ -1,7 +1,8 @@
 -- Wrong mailboxes that demand 3 rules out, stated: document 01 names some of them under "When a promise says too little". The proofs stand in proofs/Wrong.antt.
 use Rattle.std.specs.Prelude.{Bool, true, cond, List, [], ◌∷◌, ℕ, ◌+◌, eqb}
 use Rattle.reply.specs.Reply.{Reply, given, refused, alone}
-use Rattle.mailbox.specs.declared.Place.TheVariants.{Free, Waiting, Ready}
+use Rattle.mailbox.specs.declared.PlaceState.{PlaceState}
+use Rattle.mailbox.specs.declared.PlaceState.TheVariants.{Free, Waiting, Ready}
 use Rattle.mailbox.specs.declared.Place.{Place}
 use Rattle.mailbox.specs.declared.Phase.{Phase}
 use Rattle.mailbox.specs.declared.Phase.TheVariants.{Idle, Command, Response}
@@ -33,7 +34,7 @@ forgets =
     unload_of take_of
 
 -- a turn that runs the first post, and repeats its word while that stands in place 0
-abbrev pub repeated : Phase → Place → Phase
+abbrev pub repeated : Phase → PlaceState → Phase
 repeated (Response caller word) (Ready first) = Response caller first
 repeated (Response caller word) Free = Response caller word
 repeated (Response caller word) Waiting = Response caller word
@@ -94,14 +95,14 @@ abbrev pub takes_again : Server
 takes_again = server_of post_of load_of turn_of unload_of (λ m caller. after m (take_of m caller).answer)
 
 -- a take that gives any caller the word that is ready in the lowest place
-abbrev pub counted : Place → (later : ℕ) → ℕ
+abbrev pub counted : PlaceState → (later : ℕ) → ℕ
 counted Free later = later + 1
 counted Waiting later = later + 1
 counted (Ready word) later = 0
 
 unfoldable pub lowest_ready : (places : List Place) → ℕ
 lowest_ready [] = 0
-lowest_ready (p ∷ places) = counted p (lowest_ready places)
+lowest_ready (p ∷ places) = counted p.state (lowest_ready places)
 
 abbrev pub any_ready : Server
 any_ready = server_of post_of load_of turn_of unload_of (λ m caller. take_of m (lowest_ready m.places))

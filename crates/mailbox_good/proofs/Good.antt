@@ -12,7 +12,7 @@ use borrow.Author.Tests.{eq-eqb, ne_eqb, le-leb, leb-true}
 use Rattle.std.proofs.lemmas.Bool.{and_parts}
 use Rattle.mailbox.specs.declared.Phase.{Phase}
 use Rattle.mailbox.specs.declared.Phase.TheVariants.{Idle, Command, Response}
-use Rattle.mailbox.specs.declared.Place.TheVariants.{Waiting}
+use Rattle.mailbox.specs.declared.PlaceState.TheVariants.{Waiting}
 use Rattle.mailbox.specs.declared.Mailbox.{Mailbox}
 use Rattle.mailbox.specs.Machine.{no_post, waiting, state_of}
 use Rattle.mailbox.specs.Consistent.{post_fits, register_fits, times_in, register_holds, waits}

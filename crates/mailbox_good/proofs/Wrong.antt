@@ -8,9 +8,9 @@ use lib.ListN.{set}
 use Rattle.firmware.specs.Rules.{fresh_firmware, interface_off}
 use Rattle.firmware.specs.declared.Firmware.{Firmware}
 use Rattle.mailbox.specs.declared.Phase.TheVariants.{Idle, Response}
-use Rattle.mailbox.specs.declared.Place.TheVariants.{Waiting}
+use Rattle.mailbox.specs.declared.PlaceState.TheVariants.{Waiting}
 use Rattle.mailbox.specs.declared.Mailbox.{Mailbox}
-use Rattle.mailbox.specs.Machine.{mailbox_before, fresh_mailbox, joined, handed_over}
+use Rattle.mailbox.specs.Machine.{mailbox_before, fresh_mailbox, place_with, joined, handed_over}
 use Rattle.mailbox.specs.Consistent.{posts_fit, register_fits, times_in, register_holds, waits, all_below, consistent_of}
 use Rattle.mailbox_good.specs.Good.{InLine, GoodMailbox, BothWays}
 use Rattle.mailbox_good.specs.Wrong.{test_with, as_many, command_fits, no_more, ready_too, WrongTests}
@@ -30,7 +30,7 @@ register_caller_dropped d = let h = (d.only held_for_8 refl refl).register_calle
 
 -- caller 0 waits, and no post is there
 waits_for_nothing : Mailbox
-waits_for_nothing = record { register = Idle; count = 0; line = fresh_mailbox.line; places = set fresh_mailbox.places 0 Waiting; firmware = fresh_firmware }
+waits_for_nothing = record { register = Idle; count = 0; line = fresh_mailbox.line; places = set fresh_mailbox.places 0 (place_with Waiting); firmware = fresh_firmware }
 
 waiting_with_no_post : BothWays (test_with register_fits no_more) → ⊥
 unfolding waits_for_nothing posts_fit register_fits times_in register_holds all_below

@@ -2,7 +2,7 @@
 use Rattle.std.specs.Prelude.{ℕ, ◌<◌, ◌≤◌, Bool, true, ◌⊎◌, ◌≡◌, length, get_or}
 use Rattle.mailbox.specs.declared.Phase.{Phase}
 use Rattle.mailbox.specs.declared.Phase.TheVariants.{Idle, Command, Response}
-use Rattle.mailbox.specs.declared.Place.TheVariants.{Waiting}
+use Rattle.mailbox.specs.declared.PlaceState.TheVariants.{Waiting}
 use Rattle.mailbox.specs.declared.Post.{Post}
 use Rattle.mailbox.specs.declared.Mailbox.{Mailbox}
 use Rattle.mailbox.specs.Machine.{no_post, state_of}

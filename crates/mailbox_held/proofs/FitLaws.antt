@@ -11,6 +11,7 @@ use Rattle.std.specs.List.{list_all, count_by}
 use Rattle.std.proofs.lemmas.List.{get_or-drop, get_or-take}
 use Rattle.std.proofs.lemmas.List.Folds.{list_all-map}
 use Rattle.std.proofs.lemmas.List.Recursion.{is_count_by}
+use Rattle.mailbox.specs.declared.Place.{Place}
 use Rattle.mailbox.specs.Machine.{state_at}
 use Rattle.mailbox.specs.Consistent.{post_fits, posts_fit, register_fits, once, times_in, caller_fits, all_below, consistent_of}
 use Rattle.mailbox.proofs.ConsistentLaws.{posts_fit_all}
@@ -31,8 +32,8 @@ pub posts_all : (line : List ℕ) → posts_fit (map post_from line) ≡ list_al
 posts_all line = posts_fit_all (map post_from line) ∙ list_all-map post_fits post_from line
 
 -- what a caller's place says
-pub place_read : (places : List ℕ) (caller : ℕ) → state_at (map place_from places) caller ≡ place_from (get_or places caller 0)
-place_read places caller = get_or-map place_from places caller 0
+pub place_read : (places : List ℕ) (caller : ℕ) → state_at (map place_from places) caller ≡ (place_from (get_or places caller 0)).state
+place_read places caller = ap (λ (p : Place). p.state) (get_or-map place_from places caller 0)
 
 -- ---- what the words of a stretch tell
 up_part : {A : Type 0} (f : ℕ → A) (n m : ℕ) → n ≤ m → take n (up_to f m) ≡ up_to f n

@@ -15,8 +15,8 @@ use Rattle.std.proofs.lemmas.List.{get_or-drop}
 use Rattle.std.proofs.lemmas.List.Folds.{list_all_more}
 use Rattle.lent.specs.Lent.{begins}
 use Rattle.firmware.specs.Rules.{nothing}
-use Rattle.mailbox.specs.declared.Place.TheVariants.{Free}
-use Rattle.mailbox.specs.Machine.{no_post}
+use Rattle.mailbox.specs.declared.PlaceState.TheVariants.{Free}
+use Rattle.mailbox.specs.Machine.{no_post, place_with}
 use Rattle.mailbox.specs.Consistent.{all_below}
 use Rattle.mailbox.proofs.Facts.{all_facts, all_test}
 use Rattle.mailbox_layout.specs.Layout.{bit_of, phase_word, caller_word, word_word, part_word, post_word, place_word, interrupt_word, head_of, pack_of}
@@ -73,7 +73,7 @@ module _ (ws : List ℕ) where
   at_place i a b =
       let e : 16 + (i - 16) ≡ i = omega arith in
       ap (eqb (get_or ws i 0))
-      (pack_place (unpack_of ws) (unpacked_whole ws) i a b ∙ ap place_word (get_or_up_to (place_at ws) Free 8 (i - 16) (omega arith) ∙ ap (λ (j : ℕ). place_from (get_or ws j 0)) e))
+      (pack_place (unpack_of ws) (unpacked_whole ws) i a b ∙ ap place_word (get_or_up_to (place_at ws) (place_with Free) 8 (i - 16) (omega arith) ∙ ap (λ (j : ℕ). place_from (get_or ws j 0)) e))
 
   at_id : (i : ℕ) → 24 ≤ i → i < 88 → held_at ws i ≡ eqb (get_or ws i 0) (interrupt_word (interrupt_from (get_or ws i 0)))
   unfolding unpack_of firmware_from

@@ -87,7 +87,7 @@ fn caller_fits(line: &[u64], places: &[u64], register: Phase, caller: u32) -> bo
     ensures { result ≡ caller_fits (map post_from line.now) register (map place_from places.now) caller }
 {
     let place = mailbox_layout::place_from(places[caller as usize]);
-    times_in(line, caller) + register.holds(caller) == place.waits()
+    times_in(line, caller) + register.holds(caller) == place.state.waits()
 }
 
 // The same for every caller.

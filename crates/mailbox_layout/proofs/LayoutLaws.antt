@@ -8,9 +8,9 @@ use native.Mathlib.Nat.{eq-or-lt_of_le}
 use lib.ListN.{length, get_or, take, length-append, length-map, get_or-append, get_or-map}
 use lib.Seq.{get_or_at, get_or-append-add, take-suc, take-length}
 use Rattle.firmware.specs.Rules.{nothing}
-use Rattle.mailbox.specs.declared.Place.TheVariants.{Free}
+use Rattle.mailbox.specs.declared.PlaceState.TheVariants.{Free}
 use Rattle.mailbox.specs.declared.Mailbox.{Mailbox}
-use Rattle.mailbox.specs.Machine.{no_post}
+use Rattle.mailbox.specs.Machine.{no_post, place_with}
 use Rattle.mailbox_layout.specs.Layout.{up_to, post_word, place_word, interrupt_word, head_of, pack_of, firmware_from, unpack_of}
 
 module _ {A : Type 0} (f : ℕ → A) where
@@ -115,10 +115,10 @@ module _ (m : Mailbox) (w : Whole m) where
         let long = posts_long in
         past_head a ∙ (get_or-append posts (spots ++ kept) 0 (i - 8) (omega arith) ∙ get_or-map post_word m.line (i - 8) no_post)
 
-    pub pack_place : 16 ≤ i → i < 24 → get_or (pack_of m) i 0 ≡ place_word (get_or m.places (i - 16) Free)
+    pub pack_place : 16 ≤ i → i < 24 → get_or (pack_of m) i 0 ≡ place_word (get_or m.places (i - 16) (place_with Free))
     pack_place a b =
         let long = spots_long in
-        past_line a ∙ (get_or-append spots kept 0 (i - 16) (omega arith) ∙ get_or-map place_word m.places (i - 16) Free)
+        past_line a ∙ (get_or-append spots kept 0 (i - 16) (omega arith) ∙ get_or-map place_word m.places (i - 16) (place_with Free))
 
     pub pack_interrupt : 24 ≤ i → get_or (pack_of m) i 0 ≡ interrupt_word (get_or m.firmware.interrupts (i - 24) nothing)
     pack_interrupt a = past_places a ∙ get_or-map interrupt_word m.firmware.interrupts (i - 24) nothing

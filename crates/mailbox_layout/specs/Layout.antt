@@ -11,10 +11,12 @@ use Rattle.firmware.specs.declared.Interrupt.{Interrupt}
 use Rattle.firmware.specs.declared.Firmware.{Firmware}
 use Rattle.mailbox.specs.declared.Phase.{Phase}
 use Rattle.mailbox.specs.declared.Phase.TheVariants.{Idle, Command, Response}
+use Rattle.mailbox.specs.declared.PlaceState.{PlaceState}
+use Rattle.mailbox.specs.declared.PlaceState.TheVariants.{Free, Waiting, Ready}
 use Rattle.mailbox.specs.declared.Place.{Place}
-use Rattle.mailbox.specs.declared.Place.TheVariants.{Free, Waiting, Ready}
 use Rattle.mailbox.specs.declared.Post.{Post}
 use Rattle.mailbox.specs.declared.Mailbox.{Mailbox}
+use Rattle.mailbox.specs.Machine.{place_with}
 
 -- where the line, the places and the interrupts begin, and how many words there are
 abbrev pub start_of_line : ℕ
@@ -61,10 +63,13 @@ part_word (Some value) = 0x1_0000 + value
 abbrev pub post_word : (p : Post) → ℕ
 post_word p = p.caller * 0x1_0000_0000 + p.command * 0x1_0000 + p.«data»
 
+abbrev pub state_word : (state : PlaceState) → ℕ
+state_word Free = 0
+state_word Waiting = 0x1_0000_0000
+state_word (Ready word) = 0x2_0000_0000 + word
+
 abbrev pub place_word : (p : Place) → ℕ
-place_word Free = 0
-place_word Waiting = 0x1_0000_0000
-place_word (Ready word) = 0x2_0000_0000 + word
+place_word p = state_word p.state
 
 abbrev pub saved_word : (delivery : Bool) → Option Descriptor → ℕ
 saved_word delivery None = bit_of delivery * 2
@@ -103,11 +108,14 @@ part_from word = cond (eqb (word / 0x1_0000) 0) None (Some (word % 0x1_0000))
 abbrev pub post_from : (word : ℕ) → Post
 post_from word = record { caller = word / 0x1_0000_0000 % 0x1_0000_0000; command = word / 0x1_0000 % 0x1_0000; «data» = word % 0x1_0000 }
 
-abbrev pub place_from : (word : ℕ) → Place
-place_from word =
+abbrev pub state_from : (word : ℕ) → PlaceState
+state_from word =
     cond (eqb (word / 0x1_0000_0000) 0) Free
     (cond (eqb (word / 0x1_0000_0000) 1) Waiting
     (Ready (word % 0x1_0000_0000)))
+
+abbrev pub place_from : (word : ℕ) → Place
+place_from word = place_with (state_from word)
 
 abbrev pub saved_from : (word : ℕ) → Option Descriptor
 saved_from word =

@@ -6,7 +6,7 @@ ghost use Rattle.mailbox_layout.specs.Layout.{part_word, post_word, place_word, 
 ghost use Rattle.mailbox_layout.specs.Layout.{phase_from, part_from, post_from, place_from, interrupt_from};
 
 use firmware::{Descriptor, Interrupt};
-use mailbox::{Phase, Place, Post};
+use mailbox::{Phase, Place, PlaceState, Post};
 
 // Where each word stands. The first eight are one by one; then come the line, the places and the interrupts.
 
@@ -56,10 +56,10 @@ pub fn post_word(post: Post) -> u64
 pub fn place_word(place: Place) -> u64
     ensures { result ≡ place_word place }
 {
-    match place {
-        Place::Free => 0,
-        Place::Waiting => 0x1_0000_0000,
-        Place::Ready(word) => 0x2_0000_0000 + u64::from(word),
+    match place.state {
+        PlaceState::Free => 0,
+        PlaceState::Waiting => 0x1_0000_0000,
+        PlaceState::Ready(word) => 0x2_0000_0000 + u64::from(word),
     }
 }
 
@@ -121,11 +121,12 @@ pub fn post_from(word: u64) -> Post
 pub fn place_from(word: u64) -> Place
     ensures { result ≡ place_from word }
 {
-    match word / 0x1_0000_0000 {
-        0 => Place::Free,
-        1 => Place::Waiting,
-        _ => Place::Ready((word % 0x1_0000_0000) as u32),
-    }
+    let state = match word / 0x1_0000_0000 {
+        0 => PlaceState::Free,
+        1 => PlaceState::Waiting,
+        _ => PlaceState::Ready((word % 0x1_0000_0000) as u32),
+    };
+    Place { state }
 }
 
 pub fn interrupt_from(word: u64) -> Interrupt

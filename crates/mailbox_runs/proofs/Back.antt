@@ -11,14 +11,14 @@ use Rattle.std.specs.Prelude.{Option, Some, None}
 use Rattle.firmware.specs.declared.Descriptor.{Descriptor}
 use Rattle.mailbox.specs.declared.Phase.{Phase}
 use Rattle.mailbox.specs.declared.Phase.TheVariants.{Idle, Command, Response}
-use Rattle.mailbox.specs.declared.Place.{Place}
-use Rattle.mailbox.specs.declared.Place.TheVariants.{Free, Waiting, Ready}
+use Rattle.mailbox.specs.declared.PlaceState.{PlaceState}
+use Rattle.mailbox.specs.declared.PlaceState.TheVariants.{Free, Waiting, Ready}
 use Rattle.mailbox.specs.declared.Post.{Post}
 use Rattle.mailbox.specs.declared.Mailbox.{Mailbox}
-use Rattle.mailbox.specs.Machine.{no_post}
-use Rattle.mailbox_layout.specs.Layout.{up_to, bit_of, phase_word, caller_word, word_word, part_word, post_word, place_word, saved_word, interrupt_word, head_of, pack_of}
-use Rattle.mailbox_layout.specs.Layout.{phase_from, part_from, post_from, place_from, saved_from, interrupt_from, post_at, place_at, interrupt_at, firmware_from, unpack_of}
-use Rattle.mailbox_runs.specs.Typed.{TypedPart, TypedDescriptor, TypedInterrupt, TypedPost, TypedPlace, TypedPhase, Typed}
+use Rattle.mailbox.specs.Machine.{no_post, place_with}
+use Rattle.mailbox_layout.specs.Layout.{up_to, bit_of, phase_word, caller_word, word_word, part_word, post_word, state_word, place_word, saved_word, interrupt_word, head_of, pack_of}
+use Rattle.mailbox_layout.specs.Layout.{phase_from, part_from, post_from, state_from, place_from, saved_from, interrupt_from, post_at, place_at, interrupt_at, firmware_from, unpack_of}
+use Rattle.mailbox_runs.specs.Typed.{TypedPart, TypedDescriptor, TypedInterrupt, TypedPost, TypedState, TypedPlace, TypedPhase, Typed}
 use Rattle.mailbox_layout.proofs.LayoutLaws.{up_all, pack_long, pack_head, pack_post, pack_place, pack_interrupt}
 use Rattle.mailbox_runs.proofs.TypedLaws.{all_at, whole}
 
@@ -56,10 +56,10 @@ post_back_lem p fits =
     cut : (x : ℕ) → x < 0x1_0000_0000 → x % 0x1_0000_0000 ≡ x
     cut x h = omega arith
 
-place_back : (s : Place) → TypedPlace s → place_from (place_word s) ≡ s
-place_back Free fits = refl
-place_back Waiting fits = refl
-place_back (Ready w) fits =
+state_back : (s : PlaceState) → TypedState s → state_from (state_word s) ≡ s
+state_back Free fits = refl
+state_back Waiting fits = refl
+state_back (Ready w) fits =
     let two : (0x2_0000_0000 + w) / 0x1_0000_0000 ≡ 2 = omega arith in
     let rest : (0x2_0000_0000 + w) % 0x1_0000_0000 ≡ w = omega arith in
     rw (two, rest)
@@ -110,11 +110,11 @@ module _ (m : Mailbox) (k : Typed m) (behind : List ℕ) where
       let w = word_of (8 + i) (omega arith) ∙ (pack_post m (whole m k) (8 + i) (omega arith) (omega arith) ∙ ap (λ (j : ℕ). post_word (get_or m.line j no_post)) e) in
       ap post_from w ∙ post_back_lem (get_or m.line i no_post) (all_at TypedPost m.line i no_post k.line (omega arith, omega arith, omega arith))
 
-  places_back : (i : ℕ) → i < 8 → place_at ws i ≡ get_or m.places i Free
+  places_back : (i : ℕ) → i < 8 → place_at ws i ≡ get_or m.places i (place_with Free)
   places_back i p =
       let e : 16 + i - 16 ≡ i = omega arith in
-      let w = word_of (16 + i) (omega arith) ∙ (pack_place m (whole m k) (16 + i) (omega arith) (omega arith) ∙ ap (λ (j : ℕ). place_word (get_or m.places j Free)) e) in
-      ap place_from w ∙ place_back (get_or m.places i Free) (all_at TypedPlace m.places i Free k.places tt)
+      let w = word_of (16 + i) (omega arith) ∙ (pack_place m (whole m k) (16 + i) (omega arith) (omega arith) ∙ ap (λ (j : ℕ). place_word (get_or m.places j (place_with Free))) e) in
+      ap place_from w ∙ ap place_with (state_back (get_or m.places i (place_with Free)).state (all_at TypedPlace m.places i (place_with Free) k.places tt))
 
   interrupts_back : (i : ℕ) → i < 64 → interrupt_at ws i ≡ get_or m.firmware.interrupts i nothing
   interrupts_back i p =
@@ -145,6 +145,6 @@ module _ (m : Mailbox) (k : Typed m) (behind : List ℕ) where
       let register : phase_from (get_or ws 0 0) (get_or ws 1 0) (get_or ws 2 0) ≡ m.register = rw (t, c, w) (phase_back m.register k.register) in
       let count : get_or ws 3 0 ≡ m.count = head_of_lem 3 (omega arith) in
       let line : up_to (post_at ws) 8 ≡ m.line = up_all (post_at ws) m.line no_post 8 k.line_long line_back in
-      let places : up_to (place_at ws) 8 ≡ m.places = up_all (place_at ws) m.places Free 8 k.places_long places_back in
+      let places : up_to (place_at ws) 8 ≡ m.places = up_all (place_at ws) m.places (place_with Free) 8 k.places_long places_back in
       let firmware = firmware_back in
       λ j. record { register = register j; count = count j; line = line j; places = places j; firmware = firmware j }

@@ -13,8 +13,8 @@ use Rattle.lent.specs.Lent.{number_of, words_for}
 use Rattle.lent.proofs.Laws.{words_fits}
 use Rattle.firmware.specs.Rules.{fresh_firmware}
 use Rattle.firmware.specs.declared.Firmware.{Firmware}
-use Rattle.mailbox.specs.declared.Place.{Place}
-use Rattle.mailbox.specs.declared.Place.TheVariants.{Free, Waiting, Ready}
+use Rattle.mailbox.specs.declared.PlaceState.{PlaceState}
+use Rattle.mailbox.specs.declared.PlaceState.TheVariants.{Free, Waiting, Ready}
 use Rattle.mailbox.specs.declared.Mailbox.{Mailbox}
 use Rattle.mailbox.specs.Machine.{post_by, no_post, state_of, is_free, fresh_mailbox}
 use Rattle.mailbox.specs.Consistent.{consistent_of}
@@ -67,7 +67,7 @@ module _ (m : Mailbox) where
       past_check (consistent_of m) 5 _ (λ e. omega arith) (λ e. omega arith)
       (past_check (leb c 7) 9 _ (λ e. omega arith) (λ e. omega arith) (go (state_of m c)))
     where
-      go : (s : Place) → Plain (leaves m (taken_from m c s)).answer
+      go : (s : PlaceState) → Plain (leaves m (taken_from m c s)).answer
       go Free = (refl, λ e. omega arith, λ e. omega arith)
       go Waiting = (refl, λ e. omega arith, λ e. omega arith)
       go (Ready w) = tt

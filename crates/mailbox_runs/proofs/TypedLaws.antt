@@ -18,15 +18,15 @@ use Rattle.firmware.specs.declared.Firmware.{Firmware}
 use Rattle.firmware.specs.declared.Ran.{Ran}
 use Rattle.mailbox.specs.declared.Phase.{Phase}
 use Rattle.mailbox.specs.declared.Phase.TheVariants.{Idle, Command, Response}
-use Rattle.mailbox.specs.declared.Place.{Place}
-use Rattle.mailbox.specs.declared.Place.TheVariants.{Free, Waiting, Ready}
+use Rattle.mailbox.specs.declared.PlaceState.{PlaceState}
+use Rattle.mailbox.specs.declared.PlaceState.TheVariants.{Free, Waiting, Ready}
 use Rattle.mailbox.specs.declared.Mailbox.{Mailbox}
-use Rattle.mailbox.specs.Machine.{post_by, no_post, state_of, is_free, fresh_mailbox, joined, shifted, with_oldest, freed}
+use Rattle.mailbox.specs.Machine.{post_by, no_post, place_with, state_of, is_free, fresh_mailbox, joined, shifted, with_oldest, freed}
 use Rattle.mailbox.specs.Consistent.{consistent_of}
 use Rattle.mailbox_calls.specs.Calls.{After, after, leaves, loaded_from, load_of, turned_from, turn_of, unloaded_from, unload_of, taken_from, take_of, post_of}
 use Rattle.mailbox.proofs.LineLaws.{shifted_long}
 use Rattle.mailbox_layout.proofs.LayoutLaws.{Whole}
-use Rattle.mailbox_runs.specs.Typed.{TypedPart, TypedInterrupt, TypedFirmware, TypedPost, TypedPlace, TypedPhase, Typed}
+use Rattle.mailbox_runs.specs.Typed.{TypedPart, TypedInterrupt, TypedFirmware, TypedPost, TypedState, TypedPlace, TypedPhase, Typed}
 
 -- ---- all of a list
 module _ {A : Type 0} (P : A → Type 0) where
@@ -118,7 +118,7 @@ fresh_typed = record {
   line_long = refl;
   line = all_same TypedPost 8 no_post (omega arith, omega arith, omega arith);
   places_long = refl;
-  places = all_same TypedPlace 8 Free tt;
+  places = all_same TypedPlace 8 (place_with Free) tt;
   firmware = record { part1 = tt; part2 = tt; part3 = tt; interrupts_long = refl; interrupts = all_same TypedInterrupt 64 nothing tt };
 }
 
@@ -128,8 +128,8 @@ module _ (m : Mailbox) (k : Typed m) where
   past_check true n x h = h refl
   past_check false n x h = k
 
-  with_place : (c : ℕ) (s : Place) → TypedPlace s → (length (set m.places c s) ≡ 8) × All TypedPlace (set m.places c s)
-  with_place c s t = (length-set m.places c s ∙ k.places_long, all_set TypedPlace m.places c s k.places t)
+  with_place : (c : ℕ) (s : PlaceState) → TypedState s → (length (set m.places c (place_with s)) ≡ 8) × All TypedPlace (set m.places c (place_with s))
+  with_place c s t = (length-set m.places c (place_with s) ∙ k.places_long, all_set TypedPlace m.places c (place_with s) k.places t)
 
   joined_typed : (c n d : ℕ) → c ≤ 7 → n ≤ 0x3FF → d < 0x1_0000 → Typed (joined m c n d)
   joined_typed c n d low fit small =
@@ -206,7 +206,7 @@ module _ (m : Mailbox) (k : Typed m) where
   unfolding take_of
   take_typed c = past_check (consistent_of m) 5 _ (λ _. past_check (leb c 7) 9 _ (λ _. go (state_of m c)))
     where
-      go : (s : Place) → Typed (leaves m (taken_from m c s)).mailbox
+      go : (s : PlaceState) → Typed (leaves m (taken_from m c s)).mailbox
       go Free = k
       go Waiting = k
       go (Ready w) = freed_typed c

@@ -6,8 +6,9 @@ use Rattle.firmware.specs.declared.Interrupt.{Interrupt}
 use Rattle.firmware.specs.declared.Firmware.{Firmware}
 use Rattle.mailbox.specs.declared.Phase.{Phase}
 use Rattle.mailbox.specs.declared.Phase.TheVariants.{Idle, Command, Response}
+use Rattle.mailbox.specs.declared.PlaceState.{PlaceState}
+use Rattle.mailbox.specs.declared.PlaceState.TheVariants.{Free, Waiting, Ready}
 use Rattle.mailbox.specs.declared.Place.{Place}
-use Rattle.mailbox.specs.declared.Place.TheVariants.{Free, Waiting, Ready}
 use Rattle.mailbox.specs.declared.Post.{Post}
 use Rattle.mailbox.specs.declared.Mailbox.{Mailbox}
 
@@ -32,10 +33,13 @@ pub record TypedFirmware (f : Firmware) : Type 0 where
 abbrev pub TypedPost : (p : Post) → Type 0
 TypedPost p = (p.caller < 0x1_0000_0000) × (p.command < 0x1_0000) × (p.«data» < 0x1_0000)
 
+abbrev pub TypedState : (state : PlaceState) → Type 0
+TypedState Free = Unit {0}
+TypedState Waiting = Unit {0}
+TypedState (Ready word) = word < 0x1_0000_0000
+
 abbrev pub TypedPlace : (p : Place) → Type 0
-TypedPlace Free = Unit {0}
-TypedPlace Waiting = Unit {0}
-TypedPlace (Ready word) = word < 0x1_0000_0000
+TypedPlace p = TypedState p.state
 
 abbrev pub TypedPhase : (register : Phase) → Type 0
 TypedPhase Idle = Unit {0}

@@ -4,7 +4,7 @@
 ghost use Rattle.std.specs.Prelude.{◌≡◌};
 ghost use Rattle.mailbox_calls.specs.Calls.{after, told_after, load_of, turn_of, unload_of};
 
-use mailbox::{Mailbox, Phase, Place, Post};
+use mailbox::{Mailbox, Phase, PlaceState, Post};
 use reply::Refusal;
 
 // Moves the oldest post into an idle register.
@@ -63,7 +63,7 @@ pub fn unload(mailbox: &mut Mailbox) -> Result<bool, Refusal>
     let Phase::Response { caller, word } = mailbox.register else {
         return Ok(false);
     };
-    mailbox.places[caller as usize] = Place::Ready(word);
+    mailbox.places[caller as usize].state = PlaceState::Ready(word);
     mailbox.register = Phase::Idle;
     Ok(true)
 }

@@ -7,11 +7,11 @@ use native.Mathlib.Omega.{arith}
 use lib.ListN.{length, get_or, set, drop, length-set}
 use lib.Seq.{paste}
 use Rattle.lent.specs.Lent.{words_for}
-use Rattle.mailbox.specs.declared.Place.TheVariants.{Ready}
+use Rattle.mailbox.specs.declared.PlaceState.TheVariants.{Ready}
 use Rattle.mailbox.specs.declared.Post.{Post}
 use Rattle.mailbox.specs.declared.Mailbox.{Mailbox}
 use Rattle.mailbox.proofs.LineLaws.{shifted_long}
-use Rattle.mailbox.specs.Machine.{no_post, command_word, shifted, with_oldest, handed_over}
+use Rattle.mailbox.specs.Machine.{no_post, command_word, place_with, shifted, with_oldest, handed_over}
 use Rattle.mailbox_layout.specs.Layout.{up_to, place_word, post_from, head_of, pack_of, unpack_of}
 use Rattle.mailbox_held.specs.Held.{held_in}
 use Rattle.mailbox_layout.proofs.LayoutLaws.{Whole, unpacked_whole}
@@ -20,10 +20,10 @@ use Rattle.mailbox_words.proofs.StoredLaws.{laid_of, place_in, held_laid, laid_w
 -- ---- on a mailbox that is laid out
 module _ (m : Mailbox) (w : Whole m) (behind : List ℕ) where
   laid_handed : (caller word : ℕ) → caller ≤ 7
-      → set (set (set (set (laid_of m behind) 0 0) 1 0) 2 0) (16 + caller) (place_word (Ready word)) ≡ laid_of (handed_over m caller word) behind
+      → set (set (set (set (laid_of m behind) 0 0) 1 0) 2 0) (16 + caller) (place_word (place_with (Ready word))) ≡ laid_of (handed_over m caller word) behind
   laid_handed caller word q =
       let long = w.places_long in
-      place_in (head_of (handed_over m caller word)) m.line m.places m.firmware.interrupts behind caller refl w.line_long (Ready word) (omega arith)
+      place_in (head_of (handed_over m caller word)) m.line m.places m.firmware.interrupts behind caller refl w.line_long (place_with (Ready word)) (omega arith)
 
 -- ---- the oldest post taken out of the line: the seven behind it move up, and the last slot is empty
 abbrev moved : List ℕ → List ℕ
@@ -78,10 +78,10 @@ module _ (ws : List ℕ) (h : held_in ws ≡ true) where
       laid_down (with_oldest m) _ (record { line_long = shifted_long m.line w.line_long; places_long = w.places_long; interrupts_long = w.interrupts_long })
       (ap (advanced caller word) (held_laid ws h) ∙ eight_moved m behind caller word m.line w.line_long (p ∙ ap (λ (x : Post). x.caller) oldest) (q ∙ ap command_word oldest))
 
-  pub hand_over_words : (caller word place : ℕ) → caller ≤ 7 → place ≡ place_word (Ready word)
+  pub hand_over_words : (caller word place : ℕ) → caller ≤ 7 → place ≡ place_word (place_with (Ready word))
       → set (set (set (set ws 0 0) 1 0) 2 0) (16 + caller) place ≡ words_for (pack_of (handed_over (unpack_of ws) caller word)) ws
   hand_over_words caller word place p e =
       let w = whole in
       laid_down (handed_over m caller word) _
-      (record { line_long = w.line_long; places_long = length-set m.places caller (Ready word) ∙ w.places_long; interrupts_long = w.interrupts_long })
+      (record { line_long = w.line_long; places_long = length-set m.places caller (place_with (Ready word)) ∙ w.places_long; interrupts_long = w.interrupts_long })
       ((λ i. set (set (set (set (held_laid ws h i) 0 0) 1 0) 2 0) (16 + caller) (e i)) ∙ laid_handed m w behind caller word p)

@@ -8,7 +8,7 @@ ghost use Rattle.mailbox_layout.specs.Layout.{words_of_mailbox, pack_of, unpack_
 ghost use Rattle.mailbox_held.specs.Held.{held_in};
 ghost use Rattle.mailbox_words.specs.Calls.{load_on, unload_on};
 
-use mailbox::{Phase, Place};
+use mailbox::{Phase, Place, PlaceState};
 use mailbox_layout::{CALLER, COUNT, LINE, PLACES, REGISTER, WORD};
 use reply::Refusal;
 
@@ -59,7 +59,9 @@ fn hand_over(words: &mut [u64], caller: u32, word: u32)
     words[REGISTER] = 0;
     words[CALLER] = 0;
     words[WORD] = 0;
-    words[PLACES + caller as usize] = mailbox_layout::place_word(Place::Ready(word));
+    words[PLACES + caller as usize] = mailbox_layout::place_word(Place {
+        state: PlaceState::Ready(word),
+    });
 }
 
 // Delivers the response in the register to its caller.

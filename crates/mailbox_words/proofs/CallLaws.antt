@@ -1,6 +1,6 @@
 -- The laws of a call on a mailbox in lent words: what each of its ways through leaves. Assumes nothing.
 use mathlib.Core.Bool.{Bool, true, false, ◌&&◌}
-use mathlib.Core.Path.{◌≡◌, refl, sym, ◌∙◌}
+use mathlib.Core.Path.{◌≡◌, refl, sym, ap, ◌∙◌}
 use mathlib.Core.List.{List, [], ◌∷◌}
 use Prim.Native.Nat.{ℕ, ◌+◌, ◌≤◌, ◌<◌}
 use native.Mathlib.Omega.{arith}
@@ -9,8 +9,10 @@ use Rattle.reply.specs.Reply.{Reply, refused, alone}
 use Rattle.lent.specs.Lent.{words_for}
 use Rattle.lent.proofs.Laws.{words_fits, words_kept}
 use Rattle.mailbox.specs.declared.Phase.TheVariants.{Response}
-use Rattle.mailbox.specs.declared.Place.TheVariants.{Free}
+use Rattle.mailbox.specs.declared.PlaceState.TheVariants.{Free}
+use Rattle.mailbox.specs.declared.Place.{Place}
 use Rattle.mailbox.specs.declared.Mailbox.{Mailbox}
+use Rattle.mailbox.specs.Machine.{place_with, state_of}
 use Rattle.mailbox.specs.Consistent.{consistent_of}
 use Rattle.mailbox_calls.specs.Calls.{After, after, post_of, load_of, turn_of, unload_of, take_of}
 use Rattle.mailbox.proofs.Facts.{room, response_low}
@@ -24,9 +26,9 @@ use Rattle.mailbox_words.proofs.StoredLaws.{held_kept}
 -- ---- what the words of a mailbox that is served tell
 module _ (ws : List ℕ) where
   -- what stands in a caller's place
-  pub state_read : (caller : ℕ) → caller ≤ 7 → get_or (unpack_of ws).places caller Free ≡ place_from (get_or ws (16 + caller) 0)
+  pub state_read : (caller : ℕ) → caller ≤ 7 → state_of (unpack_of ws) caller ≡ (place_from (get_or ws (16 + caller) 0)).state
   unfolding unpack_of
-  state_read caller p = get_or_up_to (place_at ws) Free 8 caller (omega arith)
+  state_read caller p = ap (λ (s : Place). s.state) (get_or_up_to (place_at ws) (place_with Free) 8 caller (omega arith))
 
   pub count_read : (unpack_of ws).count ≡ get_or ws 3 0
   unfolding unpack_of
@@ -36,7 +38,7 @@ module _ (ws : List ℕ) where
   unfolding unpack_of
   register_read = refl
 
-  pub line_has_room : (caller : ℕ) → consistent_of (unpack_of ws) ≡ true → caller ≤ 7 → place_from (get_or ws (16 + caller) 0) ≡ Free → get_or ws 3 0 < 8
+  pub line_has_room : (caller : ℕ) → consistent_of (unpack_of ws) ≡ true → caller ≤ 7 → (place_from (get_or ws (16 + caller) 0)).state ≡ Free → get_or ws 3 0 < 8
   line_has_room caller e p r = rw count_read at (room (unpack_of ws) caller (unpacked_whole ws).line_long e p (state_read caller p ∙ r))
 
   -- whoever a response in the register is for

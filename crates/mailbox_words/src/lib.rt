@@ -9,7 +9,7 @@ ghost use Rattle.mailbox_layout.specs.Layout.{words_of_mailbox, pack_of, unpack_
 ghost use Rattle.mailbox_held.specs.Held.{held_in};
 ghost use Rattle.mailbox_words.specs.Calls.{fresh_words, post_on, take_on};
 
-use mailbox::{Place, Post};
+use mailbox::{Place, PlaceState, Post};
 use mailbox_layout::{COUNT, INTERFACE, LINE, PLACES, WORDS};
 use reply::Refusal;
 
@@ -21,7 +21,7 @@ pub fn fresh(words: &mut [u64]) -> Result<(), Refusal>
 {
     let mut packed = [0; WORDS];
     packed[INTERFACE] = 1;
-    lent::put(words, &packed)
+    lent::give(words, &packed)
 }
 
 // Puts the post at the line's end, and its caller waits. There are 88 words at least wherever a mailbox's are held; a function that writes more than one
@@ -38,7 +38,9 @@ fn join(words: &mut [u64], caller: u32, command: u16, data: u16)
         command,
         data,
     });
-    words[PLACES + caller as usize] = mailbox_layout::place_word(Place::Waiting);
+    words[PLACES + caller as usize] = mailbox_layout::place_word(Place {
+        state: PlaceState::Waiting,
+    });
 }
 
 // Takes a post of a caller into the line.
@@ -60,7 +62,7 @@ pub fn post(
     if 7 < caller || 0x3FF < command {
         return Err(Refusal::Range);
     }
-    let Place::Free = mailbox_layout::place_from(words[PLACES + caller as usize]) else {
+    let PlaceState::Free = mailbox_layout::place_from(words[PLACES + caller as usize]).state else {
         return Err(Refusal::Outstanding);
     };
     join(words, caller, command as u16, data);
@@ -81,15 +83,17 @@ pub fn take(words: &mut [u64], values: &mut [u64], caller: u32) -> Result<(), Re
         return Err(Refusal::Range);
     }
     let at = PLACES + caller as usize;
-    let word = match mailbox_layout::place_from(words[at]) {
-        Place::Free => return Err(Refusal::Absent),
-        Place::Waiting => return Err(Refusal::Early),
-        Place::Ready(word) => word,
+    let word = match mailbox_layout::place_from(words[at]).state {
+        PlaceState::Free => return Err(Refusal::Absent),
+        PlaceState::Waiting => return Err(Refusal::Early),
+        PlaceState::Ready(word) => word,
     };
     if values.is_empty() {
         return Err(Refusal::Room);
     }
-    words[at] = mailbox_layout::place_word(Place::Free);
+    words[at] = mailbox_layout::place_word(Place {
+        state: PlaceState::Free,
+    });
     values[0] = u64::from(word);
     Ok(())
 }

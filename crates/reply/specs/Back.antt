@@ -1,4 +1,4 @@
--- A refusal and a fault from what they tell: cited by private contracts and proofs alone, so a reader may skip it. Assumes nothing: these are definitions.
+-- A refusal and a fault from what they tell: cited by proofs alone, so a reader may skip it. Assumes nothing: these are definitions.
 use Rattle.std.specs.Prelude.{ℕ, cond, eqb}
 use Rattle.reply.specs.Reply.{Carried, alone, tested, in_header, in_entry}
 use Rattle.reply.specs.declared.Refusal.{Refusal}

@@ -3,11 +3,11 @@ use Rattle.std.specs.Prelude.{ℕ, ◌-◌, Bool, true, false, List, Some, [], �
 use Rattle.reply.specs.Reply.{Reply, given, refused}
 use Rattle.firmware.specs.Rules.{fresh_firmware, interface_off, holding, saving, run_of}
 use Rattle.firmware.specs.declared.Firmware.{Firmware}
-use Rattle.mailbox.specs.Machine.{no_post, post_by, mailbox_before, fresh_mailbox, joined, handed_over}
+use Rattle.mailbox.specs.Machine.{no_post, post_by, place_with, mailbox_before, fresh_mailbox, joined, handed_over}
 use Rattle.mailbox.specs.declared.Phase.{Phase}
 use Rattle.mailbox.specs.declared.Phase.TheVariants.{Idle, Command, Response}
-use Rattle.mailbox.specs.declared.Place.{Place}
-use Rattle.mailbox.specs.declared.Place.TheVariants.{Free, Waiting, Ready}
+use Rattle.mailbox.specs.declared.PlaceState.{PlaceState}
+use Rattle.mailbox.specs.declared.PlaceState.TheVariants.{Free, Waiting, Ready}
 use Rattle.mailbox.specs.declared.Post.{Post}
 use Rattle.mailbox.specs.declared.Mailbox.{Mailbox}
 use Rattle.values.specs.Images.{Row, row}
@@ -24,12 +24,12 @@ ready = handed_over fresh_mailbox 0 0x8080_0000
 
 -- ---- which mailboxes keep the rules
 -- the register, how many posts wait, what stands in the first slots of the line, and in the first places
-abbrev pub mailbox_with : (register : Phase) (count : ℕ) (posts : List Post) (states : List Place) → Mailbox
+abbrev pub mailbox_with : (register : Phase) (count : ℕ) (posts : List Post) (states : List PlaceState) → Mailbox
 mailbox_with register count posts states = record {
   register = register;
   count = count;
   line = posts ++ replicate (8 - length posts) no_post;
-  places = states ++ replicate (8 - length states) Free;
+  places = map place_with (states ++ replicate (8 - length states) Free);
   firmware = fresh_firmware;
 }
 
@@ -41,7 +41,7 @@ abbrev pub eight : List Post
 eight = map (λ caller. post_by caller 0x3FF 0xFFFF) (0 ∷ 1 ∷ 2 ∷ 3 ∷ 4 ∷ 5 ∷ 6 ∷ 7 ∷ [])
 
 -- caller 7 alone waits
-abbrev pub seven_waits : List Place
+abbrev pub seven_waits : List PlaceState
 seven_waits = replicate 7 Free ++ (Waiting ∷ [])
 
 -- one rule broken, or none
@@ -120,7 +120,7 @@ step_number (given false) = 0
 step_number (refused number carried) = number
 
 -- a post of caller 1 in line, beside this register and this state of caller 0's place
-abbrev pub holds : (register : Phase) (state : Place) → Mailbox
+abbrev pub holds : (register : Phase) (state : PlaceState) → Mailbox
 holds register state = mailbox_with register 1 (post_by 1 0x80 0 ∷ []) (state ∷ Waiting ∷ [])
 
 abbrev pub load_rows : List (Row Mailbox)

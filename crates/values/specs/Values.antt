@@ -1,5 +1,5 @@
 -- Document 01's values M1 to M10: a single table, and the single statement that every row of it holds. Assumes nothing: definitions and a statement.
-use Rattle.std.specs.Prelude.{ℕ, ◌-◌, ◌≤◌, ◌≡◌, List, [], ◌∷◌, length}
+use Rattle.std.specs.Prelude.{ℕ, ◌≤◌, ◌≡◌, List, [], ◌∷◌, length}
 use Rattle.le.specs.Field.{get}
 use Rattle.directory.specs.Header as header
 use Rattle.reply.specs.Reply.{Reply, given, refused, alone}

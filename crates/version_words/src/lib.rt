@@ -21,7 +21,7 @@ pub fn entry(image: &[u8], level: u32, index: u64, words: &mut [u64]) -> Result<
     let i = index as usize;
     match flash::part(image, level, i) {
         Ok(_) => binary_words::version(flash::bytes(image, level, i), words),
-        Err(fault) => lent::put_fault(words, fault),
+        Err(fault) => lent::refuse_fault(words, fault),
     }
 }
 
@@ -34,6 +34,6 @@ pub fn view(image: &[u8], place: usize, i: usize, words: &mut [u64]) -> Result<(
     let view = View::at(image, Offset::nearest(place));
     match view.part(i) {
         Ok(_) => binary_words::version(view.bytes(i), words),
-        Err(fault) => lent::put_fault(words, fault),
+        Err(fault) => lent::refuse_fault(words, fault),
     }
 }

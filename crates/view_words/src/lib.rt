@@ -19,8 +19,8 @@ pub fn view(image: &[u8], level: u32, words: &mut [u64]) -> Result<(), Refusal>
 {
     let place = View::of_level(image, level).place;
     match flash::directory(image, level) {
-        Ok(_) => lent::put(words, &[place.0 as u64]),
-        Err(fault) => lent::put_fault(words, fault),
+        Ok(_) => lent::give(words, &[place.0 as u64]),
+        Err(fault) => lent::refuse_fault(words, fault),
     }
 }
 
@@ -31,8 +31,8 @@ pub fn entry(image: &[u8], place: usize, i: usize, words: &mut [u64]) -> Result<
     ensures words_after { words.new ≡ words_left lay_entry (entry_at (rules_of image.now) image.now place i) words.old }
 {
     match View::at(image, Offset::nearest(place)).entry(i) {
-        Ok(e) => lent::put(words, &flash_words::entry_words(e)),
-        Err(fault) => lent::put_fault(words, fault),
+        Ok(e) => lent::give(words, &flash_words::entry_words(e)),
+        Err(fault) => lent::refuse_fault(words, fault),
     }
 }
 
@@ -43,7 +43,7 @@ pub fn part(image: &[u8], place: usize, i: usize, words: &mut [u64]) -> Result<(
     ensures words_after { words.new ≡ words_left lay_part (part_at (rules_of image.now) image.now place i) words.old }
 {
     match View::at(image, Offset::nearest(place)).part(i) {
-        Ok(p) => lent::put(words, &flash_words::part_words(p)),
-        Err(fault) => lent::put_fault(words, fault),
+        Ok(p) => lent::give(words, &flash_words::part_words(p)),
+        Err(fault) => lent::refuse_fault(words, fault),
     }
 }

@@ -267,10 +267,10 @@ pub fn wrong(
     ensures words_after { words.new ≡ words_left lay_wrong (wrong_at (rules_of image.now) image.now place level i) words.old }
 {
     match wrong_at(image, place, level, i) {
-        Ok(w) => lent::put(
+        Ok(w) => lent::give(
             words,
             &[w.number as u64, w.field, w.bytes, w.stands, w.should],
         ),
-        Err(fault) => lent::put_fault(words, fault),
+        Err(fault) => lent::refuse_fault(words, fault),
     }
 }

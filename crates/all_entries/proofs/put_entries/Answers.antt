@@ -19,5 +19,5 @@ returns c = let a = c.args in
     let s = a.image.now in
     let room : 3 + 8 * a.d.total ≤ length a.words.now = omega arith in
     let head = c.directory_words.ensures in
-    let put = c.put.ensures in
-    record { value = entries_number (rules_of s) s a.d a.words.now room _ _ head c.put_rows.ensures _ put.value; words_after = entries_words (rules_of s) s a.d a.words.now room _ _ head c.put_rows.ensures _ put.words_after }
+    let given = c.give.ensures in
+    record { value = entries_number (rules_of s) s a.d a.words.now room _ _ head c.put_rows.ensures _ given.value; words_after = entries_words (rules_of s) s a.d a.words.now room _ _ head c.put_rows.ensures _ given.words_after }
